@@ -1,4 +1,5 @@
 pub mod Meaning
 pub mod Laws
 pub mod Refusals
+pub mod Buffer
 pub mod Told

@@ -1,10 +1,8 @@
--- What each question to a step system answers, and what it leaves in a lent buffer. Assumes nothing.
-use mathlib.Core.Path.{_≡_}
-use mathlib.Core.Bool.{Bool, true, false, cond}
-use mathlib.Core.List.{List, [], _∷_, _++_}
+-- What each question to a step system answers: the meaning, or the first refusal in order. Assumes nothing.
+use mathlib.Core.Bool.{Bool, cond}
 use Prim.Native.Nat.{ℕ, min}
 use lib.Dec.{leb}
-use lib.ListN.{length, drop}
+use lib.ListN.{length}
 use Rattle.std.specs.Options.{isSome}
 use Rattle.std.specs.declared.option.Option.{Option}
 use Rattle.std.specs.declared.option.Option.the-variants.{None, Some}
@@ -16,30 +14,6 @@ use Rattle.steps.specs.declared.fault.MaskFault.{MaskFault}
 use Rattle.steps.specs.declared.fault.MaskFault.the-variants.{Masked, Inner}
 use Rattle.steps.specs.Meaning.{Str, Transitions, Independence}
 use Rattle.steps.specs.Laws.{state-limit, step-limit}
-
--- a string written over the front of a buffer
-abbrev pub over : Str → Str → Str
-over w buffer = w ++ drop (length w) buffer
-
--- the length of a string that is answered, and the buffer afterwards: untouched where nothing is answered
-abbrev pub count : {F : Type 0} → Result Str F → Result ℕ F
-count (Ok w) = Ok (length w)
-count (Err f) = Err f
-
-abbrev pub kept : {F : Type 0} → Result Str F → Str → Str
-kept (Ok w) buffer = over w buffer
-kept (Err f) buffer = buffer
-
--- the same of an answer that may be none
-abbrev pub count-some : {F : Type 0} → Result (Option Str) F → Result (Option ℕ) F
-count-some (Ok (Some w)) = Ok (Some (length w))
-count-some (Ok None) = Ok None
-count-some (Err f) = Err f
-
-abbrev pub kept-some : {F : Type 0} → Result (Option Str) F → Str → Str
-kept-some (Ok (Some w)) buffer = over w buffer
-kept-some (Ok None) buffer = buffer
-kept-some (Err f) buffer = buffer
 
 -- a refusal, if there is one, before what else would be answered
 abbrev pub first : {A F : Type 0} → Option F → Result A F → Result A F

@@ -1,0 +1,75 @@
+-- A string written over zeros. Assumes nothing.
+use mathlib.Core.Path.{_≡_, refl, sym, ap, _∙_}
+use mathlib.Core.Bool.{Bool, true, false, cond}
+use mathlib.Core.List.{List, [], _∷_, _++_, map, append-assoc}
+use Prim.Native.Nat.{ℕ, _+_, _-_, _≤_, _<_}
+use native.Mathlib.Omega.{arith}
+use lib.Dec.{leb}
+use lib.ListN.{length, take, drop, getD, set, replicate, length-append, length-drop, length-replicate}
+use Rattle.std.proofs.shelf.Lists.{drop-at, take-at, set-at, drop-more, take-more, take-all, length-take-le, drop-replicate, map-set}
+use Rattle.std.proofs.shelf.Tests.{cond-true, le-leb}
+use Rattle.std.specs.declared.option.Option.the-variants.{None, Some}
+use Rattle.std.specs.declared.result.Result.the-variants.{Ok}
+use Rattle.steps.specs.Meaning.{Str}
+use Rattle.steps.specs.Meaning.{Transitions}
+use Rattle.steps.specs.Buffer.{over, count, kept}
+use Rattle.steps.specs.Told.{next-told}
+use Rattle.steps.proofs.Answered.{counted, next-ok, some-not-none}
+use Rattle.bench.specs.declared.held.Held.{Held}
+use Rattle.bench.specs.Text.{text-of, fitted}
+
+-- one byte more
+pub over-more : (s z : Str) (i : ℕ) → i < length s → length s ≤ length z → set (over (take i s) z) i (getD s i 0) ≡ over (take (i + 1) s) z
+over-more s z i lt room =
+    let long : length (take i s) ≡ i = length-take-le i s (omega arith) in
+    let long′ : length (take (i + 1) s) ≡ i + 1 = length-take-le (i + 1) s (omega arith) in
+    let split : drop i z ≡ getD z i 0 ∷ drop (i + 1) z = drop-more z i 0 (omega arith) in
+    let put = set-at (take i s) (getD z i 0) (drop (i + 1) z) (getD s i 0) i long in
+    rw (long, long′, split, put, take-more s i 0 lt) (sym (append-assoc (take i s) (getD s i 0 ∷ []) (drop (i + 1) z)))
+
+pub held-more : (s bytes : Str) (n i : ℕ) → bytes ≡ over (take i s) (replicate n 0) → i < length s → length s ≤ n → (i + 1 ≤ length s) × (set bytes i (getD s i 0) ≡ over (take (i + 1) s) (replicate n 0))
+held-more s bytes n i held lt fits =
+    (omega arith, ap (λ w. set w i (getD s i 0)) held ∙ over-more s (replicate n 0) i lt (simp length-replicate (omega arith)))
+
+-- a string over zeros is held
+module _ (s bytes : Str) (n : ℕ) (fits : length s ≤ n) (whole : bytes ≡ over s (replicate n 0)) where
+  pub held-facts : (length s ≤ n) × ((length bytes ≡ n) × ((drop (length s) bytes ≡ replicate (n - length s) 0) × Unit {0}))
+  held-facts =
+      (fits,
+       (rw whole (simp (length-append, length-drop, length-replicate) (omega (arith, fits))),
+        (rw whole (drop-at s (drop (length s) (replicate n 0)) (length s) refl ∙ drop-replicate (length s) n 0), tt)))
+
+  pub held-says : take (length s) bytes ≡ s
+  held-says = rw whole (take-at s (drop (length s) (replicate n 0)) (length s) refl)
+
+pub whole : (s bytes : Str) (n i : ℕ) → length s ≤ i → bytes ≡ over (take i s) (replicate n 0) → bytes ≡ over s (replicate n 0)
+whole s bytes n i done held = held ∙ ap (λ w. over w (replicate n 0)) (take-all i s done)
+
+pub fitted-says : (s w : Str) (n : ℕ) → w ≡ s → length s ≤ n → Some w ≡ fitted n s
+fitted-says s w n e fits = ap Some e ∙ sym (cond-true (leb (length s) n) (Some s) None (le-leb _ _ fits))
+
+-- a state that follows, written over zeros
+module _ (t : Transitions) (a x bytes : Str) (len : ℕ) (answer : Ok len ≡ count (next-told t a x 256)) (buffer : bytes ≡ kept (next-told t a x 256) (replicate 256 0)) where
+  pub next-is : (b : Str) × (next-told t a x 256 ≡ Ok b) × (len ≡ length b)
+  next-is = counted (next-told t a x 256) len answer
+
+  pub next-over : bytes ≡ over (next-is .0) (replicate 256 0)
+  next-over = buffer ∙ ap (λ r. kept r (replicate 256 0)) (next-is .1)
+
+  pub next-facts : (len ≤ 256) × ((length bytes ≡ 256) × ((drop len bytes ≡ replicate (256 - len) 0) × Unit {0}))
+  next-facts = rw (next-is .2) (held-facts (next-is .0) bytes 256 (next-ok t a x (next-is .0) 256 (next-is .1) .short) next-over)
+
+  pub next-says : Ok (take len bytes) ≡ next-told t a x 256
+  next-says = rw (next-is .2, held-says (next-is .0) bytes 256 (next-ok t a x (next-is .0) 256 (next-is .1) .short) next-over) (sym (next-is .1))
+
+-- a string that is held is the one given
+pub fitted-is : (s w : Str) (n : ℕ) → Some w ≡ fitted n s → w ≡ s
+fitted-is s w n e = go (leb (length s) n) e
+  where
+    go : (b : Bool) → Some w ≡ cond b (Some s) None → w ≡ s
+    go true p = cc
+    go false p = some-not-none w p
+
+-- one row written
+pub row-put : {n : ℕ} (rows : List (Held n)) (i : ℕ) (row : Held n) (x : Str) → Some (text-of row) ≡ fitted n x → map text-of (set rows i row) ≡ set (map text-of rows) i x
+row-put {n} rows i row x e = map-set text-of rows i row ∙ ap (λ w. set (map text-of rows) i w) (fitted-is x (text-of row) n e)

@@ -1,0 +1,9 @@
+use mathlib.Core.Path.{sym, _∙_}
+use mathlib.Core.List.{[]}
+use native.Mathlib.Omega.{arith}
+use Rattle.std.proofs.shelf.Lists.{getD-map}
+use Rattle.bench.specs.Text.{text-of}
+use Rattle.bench.proofs.sheet.Sheet.row.Needs as need
+
+pub returns : need.returns
+returns c = c .text .ensures ∙ sym (getD-map text-of (c .args .self .now .rows) (c .args .i) (c .index-self-i .result) [] (omega arith))

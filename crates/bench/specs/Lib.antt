@@ -1,0 +1,5 @@
+pub mod Refusals
+pub mod Text
+pub mod Page
+pub mod Replay
+pub mod Calls
