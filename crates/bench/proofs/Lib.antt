@@ -1,3 +1,4 @@
 pub mod Texts
 pub mod Following
 pub mod Calling
+pub mod Tabled

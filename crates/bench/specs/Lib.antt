@@ -3,3 +3,4 @@ pub mod Text
 pub mod Page
 pub mod Replay
 pub mod Calls
+pub mod Table
