@@ -12,7 +12,7 @@ use Rattle.std.specs.declared.option.Option.the-variants.{None, Some}
 use Rattle.std.specs.declared.result.Result.the-variants.{Ok}
 use Rattle.steps.specs.Meaning.{Str}
 use Rattle.steps.specs.Meaning.{Transitions}
-use Rattle.steps.specs.Buffer.{over, count, kept}
+use Rattle.bytes.specs.Buffer.{over, count, kept}
 use Rattle.steps.specs.Told.{next-told}
 use Rattle.steps.proofs.Answered.{counted, next-ok, some-not-none}
 use Rattle.bench.specs.declared.held.Held.{Held}

@@ -13,7 +13,8 @@ use Rattle.std.proofs.shelf.Lists.{append-assoc, append-nil, drop-more, take-mo
 use Rattle.std.proofs.shelf.Ways.{tells}
 use Rattle.std.proofs.shelf.Tests.{eq-eqb, ne-eqb, lt-leb, le-leb, cond-true, eqb-true, cond-false}
 use Rattle.hex.specs.Digits.{digit-of, value-of, byte-of, capital}
-use Rattle.hex.specs.Hex.{hex, over, write-told, written, before, sound, all-or-count, read-told, count, Spells, Reads-back, Reads-what-is-spelled, Cases-read-alike}
+use Rattle.bytes.specs.Buffer.{over, count}
+use Rattle.hex.specs.Hex.{hex, write-told, written, before, sound, all-or-count, read-told, Spells, Reads-back, Reads-what-is-spelled, Cases-read-alike}
 use Rattle.hex.specs.Hex.Spells.{nothing, byte}
 
 -- writing

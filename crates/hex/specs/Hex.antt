@@ -1,15 +1,16 @@
 -- Bytes as hexadecimal text, and the bytes that a line of text spells. Assumes nothing.
 use mathlib.Core.Path.{_≡_}
 use mathlib.Core.Bool.{cond}
-use mathlib.Core.List.{List, [], _∷_, _++_, map}
+use mathlib.Core.List.{List, [], _∷_, map}
 use mathlib.Core.Logic.{_↔_}
 use Prim.Native.Nat.{ℕ, _*_, _/_, _%_, _≤_}
-use lib.Dec.{eqb, leb}
-use lib.ListN.{length, take, drop}
+use lib.Dec.{eqb}
+use lib.ListN.{length, take}
 use Rattle.std.specs.declared.option.Option.{Option}
 use Rattle.std.specs.declared.option.Option.the-variants.{None, Some}
 use Rattle.std.specs.declared.result.Result.{Result}
 use Rattle.std.specs.declared.result.Result.the-variants.{Ok, Err}
+use Rattle.bytes.specs.Buffer.{copied-length, copied}
 use Rattle.hex.specs.Digits.{digit-of, byte-of, capital}
 
 -- two capital digits a byte
@@ -17,16 +18,12 @@ abbrev pub hex : List ℕ → List ℕ
 hex [] = []
 hex (b ∷ bs) = digit-of (b / 16) ∷ digit-of (b % 16) ∷ hex bs
 
--- a string written over the front of a buffer
-abbrev pub over : List ℕ → List ℕ → List ℕ
-over w buffer = w ++ drop (length w) buffer
-
 -- what writing answers, and the buffer afterwards: untouched where the text does not fit
 abbrev pub write-told : List ℕ → ℕ → Option ℕ
-write-told bs n = cond (leb (length (hex bs)) n) (Some (length (hex bs))) None
+write-told bs n = copied-length (hex bs) n
 
 abbrev pub written : List ℕ → List ℕ → List ℕ
-written bs buffer = cond (leb (length (hex bs)) (length buffer)) (over (hex bs) buffer) buffer
+written bs buffer = copied (hex bs) buffer
 
 -- a byte before the bytes that follow it; nothing where it is none
 abbrev pub before : Option ℕ → List ℕ → List ℕ
@@ -46,10 +43,6 @@ all-or-count line bs = cond (eqb (length line) (2 * length bs)) (Ok bs) (Err (le
 -- what a line spells within n bytes; else how many sound bytes, at most n, stand before the fault
 abbrev pub read-told : List ℕ → ℕ → Result (List ℕ) ℕ
 read-told line n = all-or-count line (take n (sound line))
-
-abbrev pub count : Result (List ℕ) ℕ → Result ℕ ℕ
-count (Ok bs) = Ok (length bs)
-count (Err n) = Err n
 
 -- A line spells bytes: two digits each, and nothing else.
 pub data Spells : List ℕ → List ℕ → Type 0 where

@@ -1,8 +1,9 @@
 // Hexadecimal text: bytes written as pairs of digits, and lines of digits read back into bytes.
-// It rests on nothing but the standard library.
+// It rests on `bytes`.
 ghost use mathlib.Core.Path.{_≡_};
 ghost use lib.ListN.{length, take};
-ghost use Rattle.hex.specs.Hex.{over, write-told, written, sound, read-told, count, Reads-back, Reads-what-is-spelled, Cases-read-alike};
+ghost use Rattle.bytes.specs.Buffer.{over, count};
+ghost use Rattle.hex.specs.Hex.{write-told, written, sound, read-told, Reads-back, Reads-what-is-spelled, Cases-read-alike};
 
 mod digits;
 

@@ -14,7 +14,7 @@ use Rattle.steps.specs.declared.fault.MaskFault.{MaskFault}
 use Rattle.steps.specs.declared.fault.MaskFault.the-variants.{Masked, Inner}
 use Rattle.steps.specs.declared.fault.SystemFault.the-variants.{NoState, NoStep, StateTooLong}
 use Rattle.steps.specs.Meaning.{Str, Transitions}
-use Rattle.steps.specs.Buffer.{count}
+use Rattle.bytes.specs.Buffer.{count}
 use Rattle.steps.specs.Told.{first, state-refused, step-refused, step-hidden, state-fits, moved, state-told, next-told, told-length}
 
 -- a value is not a refusal

@@ -1,5 +1,4 @@
 pub mod Meaning
 pub mod Laws
 pub mod Refusals
-pub mod Buffer
 pub mod Told

@@ -1,14 +1,10 @@
 -- What a step system means, on byte strings of any length. Assumes nothing.
 use mathlib.Core.Bool.{Bool}
-use mathlib.Core.List.{List}
 use Prim.Native.Nat.{ℕ}
 use Rattle.std.specs.declared.option.Option.{Option}
 use Rattle.std.specs.declared.result.Result.{Result}
+pub use Rattle.bytes.specs.Buffer.{Str}
 use Rattle.steps.specs.declared.label.Label.{Label}
-
--- a string of bytes
-abbrev pub Str : Type 0
-Str = List ℕ
 
 -- States, steps, labels and what follows; and what the refusals of a question tell.
 pub record Transitions : Type 0 where

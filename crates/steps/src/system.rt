@@ -4,7 +4,7 @@ ghost use mathlib.Core.Path.{_≡_};
 ghost use lib.ListN.{length};
 ghost use Rattle.steps.specs.Meaning.{Transitions, Independence};
 ghost use Rattle.steps.specs.Laws.{Laws};
-ghost use Rattle.steps.specs.Buffer.{count, kept, count-some, kept-some};
+ghost use Rattle.bytes.specs.Buffer.{count, kept, count-some, kept-some};
 ghost use Rattle.steps.specs.Told.{state-told, step-told, label-told, next-told, independent-told, left-told, back-told};
 use crate::fault::MaskFault;
 use crate::label::Label;

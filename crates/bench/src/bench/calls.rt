@@ -3,7 +3,7 @@ ghost use mathlib.Core.Path.{_≡_};
 ghost use mathlib.Core.Bool.{true};
 ghost use lib.ListN.{length, replicate};
 ghost use Rattle.std.specs.Results.{isErr};
-ghost use Rattle.steps.specs.Buffer.{count, kept};
+ghost use Rattle.bytes.specs.Buffer.{count, kept};
 ghost use Rattle.bench.specs.Page.{blank-page};
 ghost use Rattle.bench.specs.Calls.{answered, accepted, opened, added, withdrawn, released, reopened};
 ghost use Rattle.bench.specs.Table.{pages-of, on-sheet, pages-after};

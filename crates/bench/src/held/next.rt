@@ -1,7 +1,7 @@
 // A held state that follows another by a step.
 ghost use mathlib.Core.Path.{_≡_};
 ghost use lib.ListN.{length};
-ghost use Rattle.steps.specs.Buffer.{count, kept};
+ghost use Rattle.bytes.specs.Buffer.{count, kept};
 ghost use Rattle.steps.specs.Told.{next-told, state-fits};
 ghost use Rattle.bench.specs.Text.{text-of, said};
 use crate::held::Held;

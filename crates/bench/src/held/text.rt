@@ -2,10 +2,10 @@
 ghost use mathlib.Core.Path.{_≡_};
 ghost use mathlib.Core.List.{[]};
 ghost use lib.ListN.{length};
-ghost use Rattle.steps.specs.Buffer.{copied-length, copied};
+ghost use Rattle.bytes.specs.Buffer.{copied-length, copied};
 ghost use Rattle.bench.specs.Text.{text-of, held-told, fitted};
 use crate::held::Held;
-use steps::buffer;
+use bytes::buffer;
 
 impl<const N: usize> Held<N> {
     // The empty string.

@@ -3,7 +3,7 @@ ghost use mathlib.Core.Path.{_≡_};
 ghost use mathlib.Core.Bool.{true};
 ghost use lib.ListN.{length};
 ghost use Rattle.std.specs.Results.{isErr};
-ghost use Rattle.steps.specs.Buffer.{count, kept};
+ghost use Rattle.bytes.specs.Buffer.{count, kept};
 ghost use Rattle.bench.specs.Page.{page-of, blank-page};
 ghost use Rattle.bench.specs.Calls.{answered, accepted, after, opened, added, withdrawn, released, reopened};
 use crate::fault::BenchFault;

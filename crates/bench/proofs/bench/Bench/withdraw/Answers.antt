@@ -1,7 +1,7 @@
 use mathlib.Core.Path.{_≡_, sym, ap, _∙_}
 use native.Mathlib.Omega.{arith}
 use lib.ListN.{length}
-use Rattle.steps.specs.Buffer.{count, kept}
+use Rattle.bytes.specs.Buffer.{count, kept}
 use Rattle.bench.specs.Calls.{answered, withdrawn}
 use Rattle.bench.proofs.Tabled.{here, pages-then, same-table}
 use Rattle.bench.proofs.bench.Bench.withdraw.Needs as need

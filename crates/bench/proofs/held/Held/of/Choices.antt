@@ -1,7 +1,7 @@
 use mathlib.Core.Path.{_≡_}
 use Prim.Native.Nat.{_≤_}
 use lib.ListN.{length, take, replicate}
-use Rattle.steps.specs.Buffer.{over}
+use Rattle.bytes.specs.Buffer.{over}
 use Rattle.bench.proofs.held.Held.of.Given as given
 
 abbrev pub Inv-loop-i : given.InvT-loop-i

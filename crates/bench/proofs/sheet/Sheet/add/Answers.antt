@@ -2,7 +2,7 @@ use mathlib.Core.Path.{_≡_, refl, sym, ap, _∙_}
 use Rattle.std.specs.declared.result.Result.the-variants.{Ok, Err}
 use Rattle.std.proofs.shelf.Results.{err-from-errBy}
 use Rattle.std.proofs.shelf.Tests.{false≢true}
-use Rattle.steps.specs.Buffer.{count, kept}
+use Rattle.bytes.specs.Buffer.{count, kept}
 use Rattle.steps.specs.Told.{next-told}
 use Rattle.steps.proofs.Answered.{counted, not-counted}
 use Rattle.bench.specs.declared.fault.BenchFault.the-variants.{WrongStanding, System, Full}

@@ -5,7 +5,7 @@ use lib.ListN.{length}
 use Rattle.std.specs.declared.result.Result.the-variants.{Ok, Err}
 use Rattle.std.proofs.shelf.Results.{err-from-errBy}
 use Rattle.std.proofs.shelf.Tests.{false≢true}
-use Rattle.steps.specs.Buffer.{count, kept}
+use Rattle.bytes.specs.Buffer.{count, kept}
 use Rattle.steps.proofs.Answered.{counted, not-counted}
 use Rattle.bench.specs.declared.fault.BenchFault.the-variants.{WrongStanding}
 use Rattle.bench.specs.Text.{text-of}

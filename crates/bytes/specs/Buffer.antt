@@ -1,6 +1,6 @@
 -- What is answered where a string is asked for in a lent buffer, and every byte of the buffer afterwards. Assumes nothing.
 use mathlib.Core.Bool.{cond}
-use mathlib.Core.List.{_++_}
+use mathlib.Core.List.{List, _++_}
 use Prim.Native.Nat.{ℕ}
 use lib.Dec.{leb}
 use lib.ListN.{length, drop}
@@ -8,7 +8,10 @@ use Rattle.std.specs.declared.option.Option.{Option}
 use Rattle.std.specs.declared.option.Option.the-variants.{None, Some}
 use Rattle.std.specs.declared.result.Result.{Result}
 use Rattle.std.specs.declared.result.Result.the-variants.{Ok, Err}
-use Rattle.steps.specs.Meaning.{Str}
+
+-- a string of bytes
+abbrev pub Str : Type 0
+Str = List ℕ
 
 -- a string written over the front of a buffer
 abbrev pub over : Str → Str → Str

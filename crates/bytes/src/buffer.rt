@@ -1,7 +1,7 @@
 // Writing to a lent buffer: over its front, or not at all.
 ghost use mathlib.Core.Path.{_≡_};
 ghost use lib.ListN.{length};
-ghost use Rattle.steps.specs.Buffer.{copied-length, copied};
+ghost use Rattle.bytes.specs.Buffer.{copied-length, copied};
 
 // Writes a string over the front of a buffer and answers its length; none, and the buffer as it was, where it is too short.
 pub fn copy(text: &[u8], out: &mut [u8]) -> Option<usize>
