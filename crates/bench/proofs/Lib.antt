@@ -2,3 +2,4 @@ pub mod Texts
 pub mod Following
 pub mod Calling
 pub mod Tabled
+pub mod Printing

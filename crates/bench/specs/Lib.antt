@@ -4,3 +4,4 @@ pub mod Page
 pub mod Replay
 pub mod Calls
 pub mod Table
+pub mod Print

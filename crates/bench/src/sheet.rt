@@ -4,6 +4,7 @@ ghost use Prim.Native.Nat.{_≤_};
 ghost use lib.ListN.{length};
 use crate::held::Held;
 pub mod calls;
+pub mod print;
 pub mod replay;
 
 // A blank sheet has no run; an open one can be changed; a released one can be printed.

@@ -6,6 +6,7 @@ ghost use Rattle.bytes.specs.Buffer.{over, count};
 ghost use Rattle.hex.specs.Hex.{write-told, written, sound, read-told, Reads-back, Reads-what-is-spelled, Cases-read-alike};
 
 mod digits;
+pub mod line;
 
 // Writes two capital digits a byte over the front of `out` and answers how many; none where they do not fit.
 pub fn write(bytes: &[u8], out: &mut [u8]) -> Option<usize>

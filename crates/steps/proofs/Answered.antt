@@ -15,7 +15,7 @@ use Rattle.steps.specs.declared.fault.MaskFault.the-variants.{Masked, Inner}
 use Rattle.steps.specs.declared.fault.SystemFault.the-variants.{NoState, NoStep, StateTooLong}
 use Rattle.steps.specs.Meaning.{Str, Transitions}
 use Rattle.bytes.specs.Buffer.{count}
-use Rattle.steps.specs.Told.{first, state-refused, step-refused, step-hidden, state-fits, moved, state-told, next-told, told-length}
+use Rattle.steps.specs.Told.{first, state-refused, step-refused, step-hidden, state-fits, moved, state-told, label-told, next-told, told-length}
 
 -- a value is not a refusal
 pub ok-not-err : {A F : Type 0} {B : Type 0} (a : A) (f : F) → _≡_ {A = Result A F} (Ok a) (Err f) → B
@@ -86,3 +86,8 @@ next-ok t a x b n e =
 
 pub state-ok : (t : Transitions) (s : Str) → state-told t s ≡ Ok tt → t .bad-state s ≡ None
 state-ok t s e = no-place (t .bad-state s) _ (first-ok _ _ tt e .0)
+
+pub label-ok : (t : Transitions) (x : Str) → t .bad-step x ≡ None → t .hidden x ≡ false → label-told t x ≡ Ok (t .label x)
+label-ok t x shaped shown =
+    ap (λ o. first (elim o as (λ _. Option MaskFault) [ None ↦ None | Some p ↦ Some (Inner (NoStep p)) ]) (first (step-hidden t x) (Ok (t .label x)))) shaped
+    ∙ ap (λ h. first {F = MaskFault} (cond h (Some Masked) None) (Ok (t .label x))) shown

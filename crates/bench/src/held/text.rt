@@ -1,6 +1,7 @@
 // What a held string says, and how one is made and read out.
 ghost use mathlib.Core.Path.{_≡_};
 ghost use mathlib.Core.List.{[]};
+ghost use Prim.Native.Nat.{_≤_};
 ghost use lib.ListN.{length};
 ghost use Rattle.bytes.specs.Buffer.{copied-length, copied};
 ghost use Rattle.bench.specs.Text.{text-of, held-told, fitted};
@@ -32,7 +33,8 @@ impl<const N: usize> Held<N> {
 
     // The string.
     pub fn text(&self) -> &[u8]
-        ensures { λ r. ⌜ now r ≡ text-of (now (self .entry)) ⌝ }
+        ensures value { λ r. ⌜ now r ≡ text-of (now (self .entry)) ⌝ }
+        ensures short { λ r. ⌜ length (now r) ≤ N ⌝ }
     {
         let all = &self.bytes[..];
         &all[0..self.len]

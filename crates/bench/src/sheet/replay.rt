@@ -2,7 +2,7 @@
 ghost use mathlib.Core.Path.{_≡_};
 ghost use mathlib.Core.List.{[]};
 ghost use Prim.Native.Nat.{_≤_, _<_};
-ghost use lib.ListN.{getD, take};
+ghost use lib.ListN.{length, getD, take};
 ghost use Rattle.bench.specs.Text.{text-of, said};
 ghost use Rattle.bench.specs.Page.{page-of};
 ghost use Rattle.bench.specs.Replay.{replayed};
@@ -15,7 +15,8 @@ impl Sheet {
     // The string in a row.
     pub(crate) fn row(&self, i: usize) -> &[u8]
         requires { ⌜ i < 32 ⌝ }
-        ensures { λ r. ⌜ now r ≡ getD (page-of (now (self .entry)) .rows) i [] ⌝ }
+        ensures value { λ r. ⌜ now r ≡ getD (page-of (now (self .entry)) .rows) i [] ⌝ }
+        ensures short { λ r. ⌜ length (now r) ≤ 64 ⌝ }
     {
         self.rows[i].text()
     }

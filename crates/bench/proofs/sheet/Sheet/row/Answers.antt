@@ -6,4 +6,7 @@ use Rattle.bench.specs.Text.{text-of}
 use Rattle.bench.proofs.sheet.Sheet.row.Needs as need
 
 pub returns : need.returns
-returns c = c .text .ensures ∙ sym (getD-map text-of (c .args .self .now .rows) (c .args .i) (c .index-self-i .result) [] (omega arith))
+returns c = record {
+  value = c .text .ensures .value ∙ sym (getD-map text-of (c .args .self .now .rows) (c .args .i) (c .index-self-i .result) [] (omega arith));
+  short = c .text .ensures .short;
+}

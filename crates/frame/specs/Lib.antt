@@ -1,0 +1,5 @@
+pub mod Refusals
+pub mod Frames
+pub mod Reading
+pub mod Events
+pub mod Format

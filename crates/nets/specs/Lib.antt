@@ -1,0 +1,5 @@
+pub mod Marking
+pub mod Events
+pub mod Firing
+pub mod Contents
+pub mod System
