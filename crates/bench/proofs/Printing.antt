@@ -2,18 +2,19 @@
 use mathlib.Core.Path.{_≡_, refl, sym, ap, subst, _∙_}
 use mathlib.Core.Bool.{Bool, true, false, cond}
 use mathlib.Core.List.{List, [], _∷_, _++_}
-use Prim.Native.Nat.{ℕ, zero, suc, _+_, _-_, _*_, _≤_, _<_}
+use Prim.Native.Nat.{ℕ, zero, suc, _+_, _-_, _*_, min, _≤_, _<_}
 use native.Mathlib.Omega.{arith}
 use lib.Dec.{leb}
 use lib.ListN.{length, take, drop, getD, length-append, length-take}
 use borrow.Rule.Slice.PartMut.{putMid}
 use Rattle.std.proofs.shelf.Lists.{take-more, take-take, take-append-drop, joined-more, append-assoc}
+use Rattle.std.proofs.shelf.Tests.{cond-true, cond-false, le-leb, lt-leb}
 use Rattle.std.specs.Joined.{joined}
 use Rattle.std.specs.Results.{isOk}
 use Rattle.std.specs.declared.result.Result.{Result}
 use Rattle.std.specs.declared.result.Result.the-variants.{Ok, Err}
 use Rattle.bytes.specs.Buffer.{over, copied}
-use Rattle.bytes.proofs.Over.{over-part}
+use Rattle.bytes.proofs.Over.{copied-over, over-part, copied-part, length-over}
 use Rattle.hex.specs.Line.{line}
 use Rattle.hex.proofs.Lines.{length-line}
 use Rattle.steps.specs.declared.label.Label.{Label}
@@ -22,9 +23,12 @@ use Rattle.steps.specs.Meaning.{Str, Transitions}
 use Rattle.steps.specs.Told.{first, step-refused, step-hidden, state-told, label-told, next-told}
 use Rattle.steps.proofs.Answered.{next-ok, label-ok, first-ok}
 use Rattle.bench.specs.declared.fault.BenchFault.{BenchFault}
-use Rattle.bench.specs.declared.fault.BenchFault.the-variants.{Stopped}
-use Rattle.bench.specs.Replay.{followed, replayed}
-use Rattle.bench.specs.Print.{step-line, step-lines, lines-length}
+use Rattle.bench.specs.declared.fault.BenchFault.the-variants.{Stopped, TextTooLong}
+use Rattle.bench.specs.declared.sheet.Standing.the-variants.{Released}
+use Rattle.bench.specs.Replay.{followed, replayed, end-told}
+use Rattle.bench.specs.Page.{Page, steps-of}
+use Rattle.bench.specs.Print.{step-line, step-lines, lines-length, sheet-text, text-length, printed}
+use Rattle.bench.proofs.Calling.{released-ends}
 
 lines-append : (xs ys : List Str) → lines-length (xs ++ ys) ≡ lines-length xs + lines-length ys
 lines-append [] ys = omega arith
@@ -56,7 +60,7 @@ lines-next t rows i n x label out now part lt at shows len room before wrote =
     let same : v ≡ step-line t (getD rows i []) = ap (λ l. line (l .action ∷ x)) shows ∙ ap (step-line t) at in
     let size : length v ≡ 2 * length x + 3 = length-line (label .action ∷ x) ∙ omega arith in
     let size′ = ap length at in
-    over-part w v out now part n long (omega arith) before wrote ∙ ap (λ u. over (w ++ u) out) same
+    copied-part w v out now part n long (omega arith) before wrote ∙ ap (λ u. over (w ++ u) out) same
     ∙ ap (λ u. over u out) (joined-more (step-line t) [] (take i rows) (getD rows i []) ∙ sym (ap (step-lines t) (take-more rows i [] lt)))
 
 -- every step of a replay that ends shows its label
@@ -89,3 +93,41 @@ label-is t x l e =
     let shaped = first-ok (step-refused t x) (first (step-hidden t x) (Ok (t .label x))) l (sym e) in
     let shown = first-ok (step-hidden t x) (Ok (t .label x)) l (shaped .1) in
     cc
+
+-- the whole text, written in three pieces
+module _ (t : Transitions) (p : Page) (a : Str) where
+  top-length : length (line (0 ∷ p .len ∷ p .start)) ≡ 2 * length (p .start) + 5
+  top-length = length-line (0 ∷ p .len ∷ p .start) ∙ omega arith
+
+  pub text-is-long : length (sheet-text t p a) ≡ text-length p a
+  text-is-long =
+      length-append (line (0 ∷ p .len ∷ p .start)) (step-lines t (steps-of p) ++ line a)
+      ∙ omega (arith, top-length, length-append (step-lines t (steps-of p)) (line a), length-step-lines t (steps-of p), length-line a)
+
+  -- asked for in a buffer of n bytes
+  module _ (n : ℕ) (is : p .standing ≡ Released) (end : Ok a ≡ end-told t p) where
+    pub printed-not : n < text-length p a → text-length p a ≤ 5222 → printed t n p ≡ Err (TextTooLong (text-length p a))
+    printed-not short bound =
+        released-ends p (end-told t p) _ a is end ∙ cond-false (leb (length (sheet-text t p a)) n) _ _ (lt-leb _ _ (omega (arith, text-is-long)))
+        ∙ ap (λ k. Err (TextTooLong k)) (ap (λ k. min k 65535) text-is-long ∙ omega arith)
+
+    pub printed-text : text-length p a ≤ n → printed t n p ≡ Ok (record { answer = sheet-text t p a; page = p })
+    printed-text fits = released-ends p (end-told t p) _ a is end ∙ cond-true (leb (length (sheet-text t p a)) n) _ _ (le-leb _ _ (omega (arith, text-is-long)))
+
+  pub text-written : (out : Str) (room : text-length p a ≤ length out) (s p₁ part₁ part₂ : Str) (first steps : ℕ) → s ≡ p .start → first ≡ 2 * length s + 5 → steps ≡ lines-length (steps-of p)
+      → p₁ ≡ copied (line ((0 ∷ p .len ∷ []) ++ s)) out
+      → part₁ ≡ over (step-lines t (steps-of p)) (take (length p₁ - first) (drop first p₁))
+      → part₂ ≡ copied (line ([] ++ a)) (take (length (putMid first (length p₁ - first) p₁ part₁) - (first + steps)) (drop (first + steps) (putMid first (length p₁ - first) p₁ part₁)))
+      → putMid (first + steps) (length (putMid first (length p₁ - first) p₁ part₁) - (first + steps)) (putMid first (length p₁ - first) p₁ part₁) part₂ ≡ over (sheet-text t p a) out
+  text-written out room s p₁ part₁ part₂ first steps at one two e₁ e₂ e₃ =
+      let w = line (0 ∷ p .len ∷ p .start) in
+      let v = step-lines t (steps-of p) in
+      let lw = top-length in
+      let lv = length-step-lines t (steps-of p) in
+      let la = length-line a in
+      let ls = ap length at in
+      let whole = text-is-long in
+      let front : p₁ ≡ over w out = e₁ ∙ ap (λ x. copied (line (0 ∷ p .len ∷ x)) out) at ∙ copied-over w out (omega arith) .1 in
+      let both : putMid first (length p₁ - first) p₁ part₁ ≡ over (w ++ v) out = over-part w v out p₁ part₁ first (omega arith) (omega arith) front e₂ in
+      let lb : length (w ++ v) ≡ first + steps = length-append w v ∙ omega arith in
+      copied-part (w ++ v) (line a) out (putMid first (length p₁ - first) p₁ part₁) part₂ (first + steps) lb (omega arith) both e₃ ∙ ap (λ x. over x out) (append-assoc w v (line a))

@@ -30,16 +30,22 @@ join-over w v o =
     ap (λ d. w ++ (v ++ d)) (drop-drop (length v) (length w) o) ∙ sym (append-assoc w v (drop (length w + length v) o)) ∙ ap (λ k. (w ++ v) ++ drop k o) (sym (length-append w v))
 
 -- what is written to the part behind the first n bytes stands behind them
-pub over-part : (w v o p ys : Str) (n : ℕ) → length w ≡ n → length w + length v ≤ length o → p ≡ over w o → ys ≡ copied v (take (length p - n) (drop n p)) → putMid n (length p - n) p ys ≡ over (w ++ v) o
+pub over-part : (w v o p ys : Str) (n : ℕ) → length w ≡ n → length w + length v ≤ length o → p ≡ over w o → ys ≡ over v (take (length p - n) (drop n p)) → putMid n (length p - n) p ys ≡ over (w ++ v) o
 over-part w v o p ys n len room first second =
     let long : length p ≡ length o = ap length first ∙ length-over w o (omega arith) in
     let rest : drop n p ≡ drop (length w) o = ap (λ k. drop k p) (sym len) ∙ ap (drop (length w)) first ∙ drop-over w o in
     let part : take (length p - n) (drop n p) ≡ drop (length w) o = take-all (length p - n) (drop n p) (omega (arith, length-drop n p)) ∙ rest in
-    let fits : length v ≤ length (drop (length w) o) = rw length-drop (omega arith) in
     let front : take n p ≡ w = ap (take n) first ∙ take-at w (drop (length w) o) n len in
     let behind : drop (length p - n) (drop n p) ≡ [] = drop-all (length p - n) (drop n p) (omega (arith, length-drop n p)) in
-    let wrote : ys ≡ over v (drop (length w) o) = second ∙ ap (copied v) part ∙ copied-over v (drop (length w) o) fits .1 in
+    let wrote : ys ≡ over v (drop (length w) o) = second ∙ ap (over v) part in
     rw (front, behind, wrote, append-nil) (join-over w v o)
+
+-- the same of a copy
+pub copied-part : (w v o p ys : Str) (n : ℕ) → length w ≡ n → length w + length v ≤ length o → p ≡ over w o → ys ≡ copied v (take (length p - n) (drop n p)) → putMid n (length p - n) p ys ≡ over (w ++ v) o
+copied-part w v o p ys n len room first second =
+    let long : length p ≡ length o = ap length first ∙ length-over w o (omega arith) in
+    let part : length (take (length p - n) (drop n p)) ≡ length o - n = ap length (take-all (length p - n) (drop n p) (omega (arith, length-drop n p))) ∙ length-drop n p ∙ ap (λ k. k - n) long in
+    over-part w v o p ys n len room first (second ∙ copied-over v (take (length p - n) (drop n p)) (omega arith) .1)
 
 -- one byte behind
 pub over-byte : (w o : Str) (b n : ℕ) → length w ≡ n → n < length o → set (over w o) n b ≡ over (w ++ b ∷ []) o

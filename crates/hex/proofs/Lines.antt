@@ -7,7 +7,7 @@ use lib.ListN.{length, take, drop, set, length-append}
 use borrow.Rule.Slice.PartMut.{putMid}
 use Rattle.std.specs.declared.option.Option.the-variants.{None, Some}
 use Rattle.bytes.specs.Buffer.{Str, over, copied-length, copied}
-use Rattle.bytes.proofs.Over.{copied-over, copied-not, over-part, over-byte}
+use Rattle.bytes.proofs.Over.{copied-over, copied-not, copied-part, over-byte}
 use Rattle.hex.specs.Hex.{hex}
 use Rattle.hex.specs.Line.{line}
 use Rattle.hex.proofs.Text.{length-hex, hex-append}
@@ -28,7 +28,7 @@ line-written f b o p q room first second =
     let lb = length-hex b in
     let told = copied-over (line (f ++ b)) o (rw (length-both f b) room) in
     let front : p ≡ over (hex f) o = first ∙ copied-over (hex f) o (omega arith) .1 in
-    let both : putMid (2 * length f) (length p - 2 * length f) p q ≡ over (hex f ++ hex b) o = over-part (hex f) (hex b) o p q (2 * length f) lf (omega arith) front second in
+    let both : putMid (2 * length f) (length p - 2 * length f) p q ≡ over (hex f ++ hex b) o = copied-part (hex f) (hex b) o p q (2 * length f) lf (omega arith) front second in
     let long : length (hex f ++ hex b) ≡ 2 * (length f + length b) = length-append (hex f) (hex b) ∙ omega arith in
     (ap Some (sym (length-both f b)) ∙ told .0,
      ap (λ w. set w (2 * (length f + length b)) 10) both ∙ over-byte (hex f ++ hex b) o 10 (2 * (length f + length b)) long (omega arith) ∙ ap (λ w. over (w ++ 10 ∷ []) o) (sym (hex-append f b)) ∙ sym (told .1))

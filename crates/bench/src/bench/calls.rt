@@ -1,11 +1,14 @@
 // The calls of the bench: each names a sheet, and changes at most that one.
 ghost use mathlib.Core.Path.{_≡_};
 ghost use mathlib.Core.Bool.{true};
+ghost use Prim.Native.Nat.{_≤_};
 ghost use lib.ListN.{length, replicate};
 ghost use Rattle.std.specs.Results.{isErr};
+ghost use Rattle.std.specs.Vec.{made};
 ghost use Rattle.bytes.specs.Buffer.{count, kept};
 ghost use Rattle.bench.specs.Page.{blank-page};
 ghost use Rattle.bench.specs.Calls.{answered, accepted, opened, added, withdrawn, released, reopened};
+ghost use Rattle.bench.specs.Print.{printed};
 ghost use Rattle.bench.specs.Table.{pages-of, on-sheet, pages-after};
 use crate::bench::Bench;
 use crate::fault::BenchFault;
@@ -85,5 +88,18 @@ impl Bench {
             return Err(BenchFault::NoSheet(1));
         }
         self.sheets[s].reopen(system)
+    }
+
+    // Prints a released sheet over the front of `out`, and answers the text's length.
+    pub fn print<S: StepSystem>(&self, system: &S, sheet: u8, out: &mut [u8]) -> Result<usize, BenchFault>
+        ensures answer { λ r. ⌜ r ≡ count (answered (on-sheet (pages-of (now (self .entry))) sheet (printed (transitions (now (system .entry))) (length (now (out .entry)))))) ⌝ }
+        ensures buffer { λ _. ⌜ now (out .exit) ≡ kept (answered (on-sheet (pages-of (now (self .entry))) sheet (printed (transitions (now (system .entry))) (length (now (out .entry)))))) (now (out .entry)) ⌝ }
+        ensures bound { λ r. ⌜ made r (λ n. n ≤ 5222) ⌝ }
+    {
+        let s = sheet as usize;
+        if s >= 4 {
+            return Err(BenchFault::NoSheet(1));
+        }
+        self.sheets[s].print(system, out)
     }
 }
