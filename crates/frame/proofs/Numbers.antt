@@ -11,7 +11,7 @@ use Rattle.std.specs.declared.option.Option.the-variants.{Some}
 use Rattle.std.proofs.shelf.Tests.{le-leb}
 use mathlib.Core.Bool.{true}
 use lib.Dec.{leb}
-use Rattle.frame.specs.declared.event.EventBytes.{EventBytes}
+use Rattle.nets.specs.declared.event.Event.{Event}
 use Rattle.frame.specs.Events.{spelled-on, big-endian, event-told}
 
 pub one-more-fits : (i v b : ℕ) → i < 8 → v < 256 ^ i → b < 256 → 256 * v + b < 18446744073709551616
@@ -31,7 +31,7 @@ one-more-spelled bs i v h = at-drop-more (spelled-on v) bs i 0 h
 pub all-spelled : (bs : List ℕ) (i v : ℕ) → length bs ≤ i → spelled-on v (drop i bs) ≡ v
 all-spelled bs i v h = at-drop-all (spelled-on v) bs i h
 
-abbrev the-event : ℕ → ℕ → ℕ → EventBytes
+abbrev the-event : ℕ → ℕ → ℕ → Event
 the-event action before after = record { action = action; before = before; after = after }
 
 -- an event that was decoded, where its index was the number k

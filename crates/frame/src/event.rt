@@ -5,18 +5,11 @@ ghost use lib.ListN.{length};
 ghost use Rattle.frame.specs.Events.{big-endian, event-told, event-place};
 use crate::setup::EVENT_SIZE;
 use crate::setup::Setup;
-
-// An event as it stands in a setup: its action, and the sets of conditions before and after it, a bit each.
-#[derive(Clone, Copy)]
-pub struct EventBytes {
-    pub action: u8,
-    pub before: u64,
-    pub after: u64,
-}
+use nets::event::Event;
 
 impl Setup<'_> {
     // The event at an index; none past the last.
-    pub fn event(&self, i: u8) -> Option<EventBytes>
+    pub fn event(&self, i: u8) -> Option<Event>
         ensures { λ r. ⌜ r ≡ event-told (now (now (self .entry) .events)) i ⌝ }
     {
         let start = EVENT_SIZE * usize::from(i);
@@ -26,7 +19,7 @@ impl Setup<'_> {
         let event = &self.events[start..start + EVENT_SIZE];
         let before = big_endian(&event[1..9]);
         let after = big_endian(&event[9..17]);
-        Some(EventBytes {
+        Some(Event {
             action: event[0],
             before,
             after,
