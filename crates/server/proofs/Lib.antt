@@ -1,3 +1,4 @@
 pub mod Lines
 pub mod Building
 pub mod Replies
+pub mod Reading

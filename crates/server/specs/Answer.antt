@@ -1,10 +1,14 @@
 -- What the server answers to a line, and what it keeps afterwards. Assumes nothing.
+use mathlib.Core.Bool.{cond}
 use mathlib.Core.List.{List, [], _∷_}
 use Prim.Native.Nat.{ℕ}
+use lib.Dec.{leb}
 use lib.ListN.{length}
+use Rattle.std.specs.declared.option.Option.{Option}
+use Rattle.std.specs.declared.option.Option.the-variants.{None, Some}
 use Rattle.std.specs.declared.result.Result.{Result}
 use Rattle.std.specs.declared.result.Result.the-variants.{Ok, Err}
-use Rattle.bytes.specs.Buffer.{Str}
+use Rattle.bytes.specs.Buffer.{Str, over}
 use Rattle.hex.specs.Hex.{read-told}
 use Rattle.hex.specs.Line.{line}
 use Rattle.steps.specs.Meaning.{Transitions}
@@ -82,3 +86,13 @@ read-reply m (Err place) = refused m (Malformed place)
 
 abbrev pub line-reply : Model → Str → Reply
 line-reply m l = read-reply m (read-told l 1024)
+
+-- what is answered, left in a buffer and kept, where the buffer has room for the longest text; else nothing is done
+abbrev pub reply-length : Reply → ℕ → Option ℕ
+reply-length r n = cond (leb text-limit n) (Some (length (r .text))) None
+
+abbrev pub reply-buffer : Reply → Str → Str
+reply-buffer r buffer = cond (leb text-limit (length buffer)) (over (r .text) buffer) buffer
+
+abbrev pub reply-model : Reply → ℕ → Model → Model
+reply-model r n m = cond (leb text-limit n) (r .model) m

@@ -19,6 +19,7 @@ pub fn accept(bytes: &[u8], out: &mut [u8]) -> usize
     requires room { ⌜ text-limit ≤ length (now out) ⌝ }
     ensures answer { λ r. ⌜ r ≡ length (line (0 ∷ now (bytes .entry))) ⌝ }
     ensures buffer { λ _. ⌜ now (out .exit) ≡ over (line (0 ∷ now (bytes .entry))) (now (out .entry)) ⌝ }
+    ensures bound { λ r. ⌜ r ≤ 5222 ⌝ }
 {
     let _ = line::write(&[0], bytes, out);
     2 * bytes.len() + 3
@@ -37,6 +38,7 @@ pub fn refuse(refusal: Refusal, out: &mut [u8]) -> usize
     requires { ⌜ text-limit ≤ length (now out) ⌝ }
     ensures answer { λ r. ⌜ r ≡ length (refusal-line refusal) ⌝ }
     ensures buffer { λ _. ⌜ now (out .exit) ≡ over (refusal-line refusal) (now (out .entry)) ⌝ }
+    ensures bound { λ r. ⌜ r ≤ 5222 ⌝ }
 {
     let _ = line::write(&told(refusal), &[], out);
     9
@@ -47,6 +49,7 @@ pub fn refuse_call(fault: BenchFault, out: &mut [u8]) -> usize
     requires { ⌜ text-limit ≤ length (now out) ⌝ }
     ensures answer { λ r. ⌜ r ≡ length (fault-line fault) ⌝ }
     ensures buffer { λ _. ⌜ now (out .exit) ≡ over (fault-line fault) (now (out .entry)) ⌝ }
+    ensures bound { λ r. ⌜ r ≤ 5222 ⌝ }
 {
     let Some(cause) = fault.cause() else {
         return refuse(fault.refusal(), out);

@@ -6,4 +6,4 @@ use Rattle.server.proofs.text.accept.Needs as need
 pub returns : need.returns
 returns c =
     let fits = line-fits (0 ∷ c .args .bytes .now) (c .args .out .now) (c .write .last .out) _ (omega arith) (c .pre .room) (omega arith) (c .write .ensures .buffer) in
-    record { answer = fits .0; buffer = fits .1 }
+    record { answer = fits .0; buffer = fits .1; bound = omega arith }

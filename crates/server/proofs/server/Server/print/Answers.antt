@@ -11,7 +11,7 @@ pub returns-in-Ok : need.returns-in-Ok
 returns-in-Ok c =
     let m = model-of (c .args .self .now) in
     let e = print-ok (system-of m) (m .pages) (c .args .sheet) (c .args .out .now) c.pre (c .in-Ok .n) (c .print .last .out) (c .in-Ok .ensures tt .bound) (c .in-Ok .ensures tt .answer) (c .in-Ok .ensures tt .buffer) in
-    record { answer = e .0; buffer = e .1; model = refl }
+    record { answer = e .0; buffer = e .1; model = refl; bound = c .in-Ok .ensures tt .bound }
 
 pub returns-in-Err : need.returns-in-Err
 returns-in-Err c =
@@ -21,4 +21,5 @@ returns-in-Err c =
       answer = c .refuse-call .ensures .answer ∙ sym (ap (λ w. length (print-text (answered w))) (e .0));
       buffer = c .refuse-call .ensures .buffer ∙ ap (over (fault-line (c .in-Err .fault))) (e .1) ∙ sym (ap (λ w. over (print-text (answered w)) (c .args .out .now)) (e .0));
       model = refl;
+      bound = c .refuse-call .ensures .bound;
     }

@@ -17,4 +17,5 @@ returns-in-Err c =
       answer = c .refuse-call .ensures .answer ∙ sym (ap (λ w. length (call-text (answered w))) e);
       buffer = c .refuse-call .ensures .buffer ∙ sym (ap (λ w. over (call-text (answered w)) (c .args .out .now)) e);
       model = ap (λ ps. record { events = m .events; pages = ps }) (c .open-sheet .ensures .pages);
+      bound = c .refuse-call .ensures .bound;
     }

@@ -19,6 +19,7 @@ returns-in-Err c =
       answer = c .refuse-call .ensures .answer ∙ sym (ap (λ w. length (call-text (answered w))) e);
       buffer = c .refuse-call .ensures .buffer ∙ sym (ap (λ w. over (call-text (answered w)) (c .args .out .now)) e);
       model = ap (λ ps. record { events = m .events; pages = ps }) (c .withdraw .ensures .pages);
+      bound = c .refuse-call .ensures .bound;
     }
 
 pub returns-in-Ok : need.returns-in-Ok
@@ -31,4 +32,5 @@ returns-in-Ok c =
       answer = c .accept .ensures .answer ∙ ap length text;
       buffer = c .accept .ensures .buffer ∙ ap (λ w. over w (c .args .out .now)) text;
       model = ap (λ ps. record { events = m .events; pages = ps }) (c .withdraw .ensures .pages);
+      bound = c .accept .ensures .bound;
     }
