@@ -5,8 +5,8 @@ use mathlib.Core.List.{List, [], _∷_, _++_, map, append-assoc}
 use Prim.Native.Nat.{ℕ, _+_, _-_, _≤_, _<_}
 use native.Mathlib.Omega.{arith}
 use lib.Dec.{leb}
-use lib.ListN.{length, take, drop, getD, set, replicate, length-append, length-drop, length-replicate}
-use Rattle.std.proofs.shelf.Lists.{drop-at, take-at, set-at, drop-more, take-more, take-all, length-take-le, drop-replicate, map-set}
+use lib.ListN.{length, take, drop, getD, set, replicate, length-append, length-drop, length-take, length-replicate}
+use Rattle.std.proofs.shelf.Lists.{drop-at, take-at, set-at, drop-more, take-more, take-all, length-take-le, drop-replicate, drop-drop, drop-set-lt, length-set, take-more-set, take-append-le, map-set}
 use Rattle.std.proofs.shelf.Tests.{cond-true, le-leb}
 use Rattle.std.specs.declared.option.Option.the-variants.{None, Some}
 use Rattle.std.specs.declared.result.Result.the-variants.{Ok}
@@ -73,3 +73,22 @@ fitted-is s w n e = go (leb (length s) n) e
 -- one row written
 pub row-put : {n : ℕ} (rows : List (Held n)) (i : ℕ) (row : Held n) (x : Str) → Some (text-of row) ≡ fitted n x → map text-of (set rows i row) ≡ set (map text-of rows) i x
 row-put {n} rows i row x e = map-set text-of rows i row ∙ ap (λ w. set (map text-of rows) i w) (fitted-is x (text-of row) n e)
+
+-- one byte behind a held string
+module _ (bytes : Str) (n len b : ℕ) (long : length bytes ≡ n) (clear : drop len bytes ≡ replicate (n - len) 0) where
+  pub push-facts : len < n → (len + 1 ≤ n) × ((length (set bytes len b) ≡ n) × ((drop (len + 1) (set bytes len b) ≡ replicate (n - (len + 1)) 0) × Unit {0}))
+  push-facts room =
+      let less : n - len - 1 ≡ n - (len + 1) = omega arith in
+      (omega arith,
+       (length-set bytes len b ∙ long,
+        (drop-set-lt (len + 1) bytes len b (omega arith) ∙ sym (drop-drop 1 len bytes) ∙ ap (drop 1) clear ∙ drop-replicate 1 (n - len) 0 ∙ ap (λ k. replicate k 0) less, tt)))
+
+  pub push-says : len < n → take (len + 1) (set bytes len b) ≡ take n (take len bytes ++ b ∷ [])
+  push-says room =
+      let size : length (take len bytes ++ b ∷ []) ≤ n = simp (length-append, length-take) (omega arith) in
+      take-more-set bytes len b (omega arith) ∙ sym (take-all n (take len bytes ++ b ∷ []) size)
+
+  pub push-full : n ≤ len → len ≤ n → take len bytes ≡ take n (take len bytes ++ b ∷ [])
+  push-full full within =
+      let size : length (take len bytes) ≡ n = length-take-le len bytes (omega arith) ∙ omega arith in
+      sym (take-append-le n (take len bytes) (b ∷ []) (omega arith) ∙ take-all n (take len bytes) (omega arith))

@@ -2,3 +2,4 @@ pub mod Lines
 pub mod Building
 pub mod Replies
 pub mod Reading
+pub mod Inputs

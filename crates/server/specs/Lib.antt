@@ -1,3 +1,4 @@
 pub mod Text
 pub mod Setup
 pub mod Answer
+pub mod Session

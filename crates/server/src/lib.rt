@@ -2,6 +2,7 @@
 // It rests on all crates below: frames are read, the net and the bench are asked, answers are written.
 pub mod answer;
 pub mod server;
+pub mod session;
+pub mod text;
 mod calls;
 mod setup;
-mod text;

@@ -7,7 +7,7 @@ use frame::setup::Setup;
 use nets::net::Net;
 
 // Makes the net, or refuses the first event that breaks a rule.
-pub fn build(setup: &Setup<'_>) -> Result<Net, FrameFault>
+pub(crate) fn build(setup: &Setup<'_>) -> Result<Net, FrameFault>
     ensures { λ r. ⌜ net-view r ≡ net-told (now (now (setup .entry) .events)) ⌝ }
 {
     let mut net = Net::new();

@@ -14,7 +14,7 @@ use steps::fault::Refusal;
 pub const TEXT_LIMIT: usize = 5222;
 
 // An accepted call: a zero byte and what it answers.
-pub fn accept(bytes: &[u8], out: &mut [u8]) -> usize
+pub(crate) fn accept(bytes: &[u8], out: &mut [u8]) -> usize
     requires state { ⌜ length (now bytes) ≤ 256 ⌝ }
     requires room { ⌜ text-limit ≤ length (now out) ⌝ }
     ensures answer { λ r. ⌜ r ≡ length (line (0 ∷ now (bytes .entry))) ⌝ }
@@ -26,7 +26,7 @@ pub fn accept(bytes: &[u8], out: &mut [u8]) -> usize
 }
 
 // The four bytes of a refusal.
-pub fn told(refusal: Refusal) -> [u8; 4]
+pub(crate) fn told(refusal: Refusal) -> [u8; 4]
     ensures { λ r. ⌜ r ≡ refusal-bytes refusal ⌝ }
 {
     let [high, low] = refusal.place.to_be_bytes();
@@ -34,7 +34,7 @@ pub fn told(refusal: Refusal) -> [u8; 4]
 }
 
 // A refusal with nothing beneath it.
-pub fn refuse(refusal: Refusal, out: &mut [u8]) -> usize
+pub(crate) fn refuse(refusal: Refusal, out: &mut [u8]) -> usize
     requires { ⌜ text-limit ≤ length (now out) ⌝ }
     ensures answer { λ r. ⌜ r ≡ length (refusal-line refusal) ⌝ }
     ensures buffer { λ _. ⌜ now (out .exit) ≡ over (refusal-line refusal) (now (out .entry)) ⌝ }
@@ -45,7 +45,7 @@ pub fn refuse(refusal: Refusal, out: &mut [u8]) -> usize
 }
 
 // A refusal of the bench, with the one that stopped a replay beneath it.
-pub fn refuse_call(fault: BenchFault, out: &mut [u8]) -> usize
+pub(crate) fn refuse_call(fault: BenchFault, out: &mut [u8]) -> usize
     requires { ⌜ text-limit ≤ length (now out) ⌝ }
     ensures answer { λ r. ⌜ r ≡ length (fault-line fault) ⌝ }
     ensures buffer { λ _. ⌜ now (out .exit) ≡ over (fault-line fault) (now (out .entry)) ⌝ }

@@ -1,8 +1,8 @@
 // What a held string says, and how one is made and read out.
 ghost use mathlib.Core.Path.{_≡_};
-ghost use mathlib.Core.List.{[]};
+ghost use mathlib.Core.List.{[], _∷_, _++_};
 ghost use Prim.Native.Nat.{_≤_};
-ghost use lib.ListN.{length};
+ghost use lib.ListN.{length, take};
 ghost use Rattle.bytes.specs.Buffer.{copied-length, copied};
 ghost use Rattle.bench.specs.Text.{text-of, held-told, fitted};
 use crate::held::Held;
@@ -46,5 +46,15 @@ impl<const N: usize> Held<N> {
         ensures buffer { λ _. ⌜ now (out .exit) ≡ copied (text-of (now (self .entry))) (now (out .entry)) ⌝ }
     {
         buffer::copy(self.text(), out)
+    }
+
+    // Puts one byte behind the string, where there is room.
+    pub fn push(&mut self, byte: u8)
+        ensures { λ _. ⌜ text-of (now (self .exit)) ≡ take N (text-of (now (self .entry)) ++ byte ∷ []) ⌝ }
+    {
+        if self.len < N {
+            self.bytes[self.len] = byte;
+            self.len += 1;
+        }
     }
 }
