@@ -20,7 +20,7 @@ use Rattle.bench.specs.declared.fault.BenchFault.the-variants.{WrongStanding, 
 use Rattle.bench.specs.declared.sheet.Standing.{Standing}
 use Rattle.bench.specs.declared.sheet.Standing.the-variants.{Blank, Open, Released}
 use Rattle.bench.specs.Page.{Page}
-use Rattle.bench.specs.Text.{fitted}
+use Rattle.bytes.specs.Text.{fitted}
 use Rattle.bench.specs.Replay.{replayed, end-told}
 use Rattle.bench.specs.Calls.{Outcome, then, from-system, when-open, when-released, unless-released, opened, added, withdrawn}
 

@@ -1,4 +1,4 @@
-pub mod Texts
+pub mod Rows
 pub mod Following
 pub mod Calling
 pub mod Tabled

@@ -1,5 +1,4 @@
 pub mod Refusals
-pub mod Text
 pub mod Page
 pub mod Replay
 pub mod Calls

@@ -6,7 +6,7 @@ use Rattle.steps.specs.Meaning.{Str}
 use Rattle.bench.specs.declared.sheet.Standing.{Standing}
 use Rattle.bench.specs.declared.sheet.Standing.the-variants.{Blank}
 use Rattle.bench.specs.declared.sheet.Sheet.{Sheet}
-use Rattle.bench.specs.Text.{text-of}
+use Rattle.bytes.specs.Text.{text-of}
 
 pub record Page : Type 0 where
   pub standing : Standing

@@ -2,5 +2,5 @@
 // It knows systems only by the interface of `steps`.
 pub mod bench;
 pub mod fault;
-pub mod held;
 pub mod sheet;
+mod state;

@@ -2,7 +2,7 @@
 ghost use mathlib.Core.Path.{_≡_};
 ghost use Prim.Native.Nat.{_≤_};
 ghost use lib.ListN.{length};
-use crate::held::Held;
+use bytes::held::Held;
 pub mod calls;
 pub mod print;
 pub mod replay;

@@ -7,7 +7,7 @@ ghost use Rattle.frame.specs.Format.{Reads-frames, Places-malformed, Places-ba
 use crate::fault::FrameFault;
 use crate::setup::Setup;
 
-// A call on a sheet, or the setup that comes before all calls.
+// A setup, or a call on a sheet.
 #[derive(Clone, Copy)]
 pub enum Frame<'a> {
     Setup(Setup<'a>),

@@ -4,6 +4,7 @@ ghost use Prim.Native.Nat.{_+_, _<_};
 ghost use lib.ListN.{length};
 ghost use Rattle.frame.specs.Reading.{part-told, part-view, layout-told, layout-view, rules-told, parts-told, setup-told, setup-view, viewed};
 use crate::fault::FrameFault;
+use nets::net::EVENT_LIMIT;
 
 // The parts of a setup: pairs of two bytes, names of one, events of seventeen.
 #[derive(Clone, Copy)]
@@ -26,9 +27,6 @@ struct Parts<'a> {
     setup: Setup<'a>,
     behind: &'a [u8],
 }
-
-// The most events of a setup.
-pub const EVENT_LIMIT: usize = 48;
 
 // The bytes of an event.
 pub const EVENT_SIZE: usize = 17;

@@ -1,13 +1,13 @@
 // The step system of a net: its states are markings, its steps the numbers of its events.
-ghost use mathlib.Core.Bool.{cond};
 ghost use mathlib.Core.Path.{_≡_};
-ghost use lib.Dec.{leb};
 ghost use lib.ListN.{length};
 ghost use Rattle.nets.specs.Contents.{events-of};
+ghost use Rattle.nets.specs.Marking.{bytes-of};
 ghost use Rattle.nets.specs.System.{net-transitions, net-independence};
 ghost use Rattle.std.specs.declared.option.Option.the-variants.{Some};
-ghost use Rattle.bytes.specs.Buffer.{over, count-some, kept-some};
-ghost use Rattle.steps.specs.Told.{step-fits};
+ghost use Rattle.bytes.specs.Buffer.{count, kept, count-some, kept-some};
+ghost use Rattle.steps.specs.Told.{state-fits, step-fits};
+use bytes::buffer;
 use crate::marking::read;
 use crate::net::Net;
 use steps::fault::MaskFault;
@@ -15,16 +15,15 @@ use steps::fault::SystemFault;
 use steps::label::Label;
 use steps::system::StepSystem;
 
-// Writes the bytes over the front of the buffer, where there is room for them, and tells whether there is.
-fn put(bytes: &[u8], out: &mut [u8]) -> bool
-    ensures answer { λ r. ⌜ r ≡ leb (length (now (bytes .entry))) (length (now (out .entry))) ⌝ }
-    ensures buffer { λ r. ⌜ now (out .exit) ≡ cond r (over (now (bytes .entry)) (now (out .entry))) (now (out .entry)) ⌝ }
+// Writes a marking over the front of the buffer, and answers its length.
+fn put_marking(marking: u64, out: &mut [u8]) -> Result<usize, MaskFault>
+    ensures answer { λ r. ⌜ r ≡ count (state-fits (bytes-of marking) (length (now (out .entry)))) ⌝ }
+    ensures buffer { λ _. ⌜ now (out .exit) ≡ kept (state-fits (bytes-of marking) (length (now (out .entry)))) (now (out .entry)) ⌝ }
 {
-    if bytes.len() > out.len() {
-        return false;
+    match buffer::copy(&marking.to_be_bytes(), out) {
+        Some(n) => Ok(n),
+        None => Err(MaskFault::Inner(SystemFault::StateTooLong(8))),
     }
-    out[0..bytes.len()].copy_from_slice(bytes);
-    true
 }
 
 // Writes a step of one byte over the front of the buffer, and answers its length.
@@ -33,10 +32,9 @@ fn put_step(step: &[u8], out: &mut [u8]) -> Result<Option<usize>, MaskFault>
     ensures answer { λ r. ⌜ r ≡ count-some (step-fits (Some (now (step .entry))) (length (now (out .entry)))) ⌝ }
     ensures buffer { λ _. ⌜ now (out .exit) ≡ kept-some (step-fits (Some (now (step .entry))) (length (now (out .entry)))) (now (out .entry)) ⌝ }
 {
-    if put(step, out) {
-        Ok(Some(1))
-    } else {
-        Err(MaskFault::Inner(SystemFault::StepTooLong(1)))
+    match buffer::copy(step, out) {
+        Some(n) => Ok(Some(n)),
+        None => Err(MaskFault::Inner(SystemFault::StepTooLong(1))),
     }
 }
 
@@ -68,11 +66,7 @@ pub impl StepSystem for Net as NetSystem {
         let Some(after) = event.fire(marking) else {
             return Err(MaskFault::Inner(SystemFault::Impossible(0)));
         };
-        if put(&after.to_be_bytes(), out) {
-            Ok(8)
-        } else {
-            Err(MaskFault::Inner(SystemFault::StateTooLong(8)))
-        }
+        put_marking(after, out)
     }
 
     fn independent(&self, x: &[u8], y: &[u8]) -> Result<bool, MaskFault> {

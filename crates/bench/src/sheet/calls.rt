@@ -8,10 +8,11 @@ ghost use Rattle.bench.specs.Page.{page-of, blank-page};
 ghost use Rattle.bench.specs.Calls.{answered, accepted, after, opened, added, withdrawn, released, reopened};
 use crate::fault::BenchFault;
 use crate::fault::BenchFaultFromMask;
-use crate::held::Held;
+use bytes::held::Held;
 use crate::sheet::Head;
 use crate::sheet::Sheet;
 use crate::sheet::Standing;
+use crate::state::answer;
 use steps::system::StepSystem;
 
 impl Sheet {
@@ -81,7 +82,7 @@ impl Sheet {
             return Err(BenchFault::NoSuchStep(0));
         }
         let end = self.replay(system, head.len - 1)?;
-        let n = end.answer(out)?;
+        let n = answer(&end, out)?;
         self.head = Head { standing: Standing::Open, len: head.len - 1 };
         Ok(n)
     }

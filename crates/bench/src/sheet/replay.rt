@@ -3,12 +3,13 @@ ghost use mathlib.Core.Path.{_≡_};
 ghost use mathlib.Core.List.{[]};
 ghost use Prim.Native.Nat.{_≤_, _<_};
 ghost use lib.ListN.{length, getD, take};
-ghost use Rattle.bench.specs.Text.{text-of, said};
+ghost use Rattle.bytes.specs.Text.{text-of, said};
 ghost use Rattle.bench.specs.Page.{page-of};
 ghost use Rattle.bench.specs.Replay.{replayed};
 use crate::fault::BenchFault;
-use crate::held::Held;
+use bytes::held::Held;
 use crate::sheet::Sheet;
+use crate::state::following;
 use steps::system::StepSystem;
 
 impl Sheet {
@@ -31,7 +32,7 @@ impl Sheet {
         }
         let mut state = self.start;
         for i in 0..count {
-            match state.next(system, self.row(i)) {
+            match following(system, &state, self.row(i)) {
                 Ok(next) => state = next,
                 Err(fault) => return Err(BenchFault::Stopped(i as u16 + 1, fault)),
             }

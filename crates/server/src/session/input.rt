@@ -8,12 +8,12 @@ ghost use lib.ListN.{length, take, replicate};
 ghost use Rattle.std.specs.Slices.{found};
 ghost use Rattle.bytes.specs.Buffer.{Str};
 ghost use Rattle.bench.specs.Page.{blank-page};
-ghost use Rattle.bench.specs.Text.{text-of};
+ghost use Rattle.bytes.specs.Text.{text-of};
 ghost use Rattle.server.specs.Answer.{model-of};
 ghost use Rattle.server.specs.Session.{line-limit, taken-length, taken-buffer, taken-model, taken-line};
 use crate::server::Server;
 use crate::session::Session;
-use bench::held::Held;
+use bytes::held::Held;
 
 impl Session {
     // A new server, and an empty line.

@@ -6,13 +6,13 @@ use Rattle.bytes.specs.Buffer.{count, kept}
 use Rattle.steps.specs.Told.{next-told}
 use Rattle.steps.proofs.Answered.{counted, not-counted}
 use Rattle.bench.specs.declared.fault.BenchFault.the-variants.{WrongStanding, System, Full}
-use Rattle.bench.specs.Text.{text-of}
+use Rattle.bytes.specs.Text.{text-of}
 use mathlib.Core.List.{List}
 use Prim.Native.Nat.{ℕ, _+_}
 use Rattle.steps.specs.Meaning.{Str}
 use Rattle.bench.specs.declared.sheet.Standing.the-variants.{Open}
 use Rattle.bench.specs.Page.{Page, page-of}
-use Rattle.bench.proofs.Texts.{row-put}
+use Rattle.bench.proofs.Rows.{row-put}
 use Rattle.bench.specs.Calls.{added, answered, after}
 use Rattle.bench.proofs.Calling.{not-open, open-stopped, added-full, added-refused, added-last, step-held}
 use Rattle.bench.proofs.sheet.Sheet.add.Needs as need

@@ -7,7 +7,7 @@ use Rattle.std.specs.declared.result.Result.the-variants.{Ok, Err}
 use Rattle.std.proofs.shelf.Results.{err-from-errBy, made-from-err}
 use Rattle.bytes.specs.Buffer.{count, kept}
 use Rattle.bench.specs.declared.fault.BenchFault.the-variants.{WrongStanding, TextTooLong}
-use Rattle.bench.specs.Text.{text-of}
+use Rattle.bytes.specs.Text.{text-of}
 use Rattle.bench.specs.Page.{page-of}
 use Rattle.bench.specs.Calls.{answered}
 use Rattle.bench.specs.Print.{printed}

@@ -7,7 +7,7 @@ use lib.Seq.{getD-take}
 use Rattle.bytes.specs.Buffer.{over}
 use Rattle.bytes.proofs.Over.{length-over}
 use Rattle.steps.proofs.Answered.{ok-not-err}
-use Rattle.bench.specs.Text.{text-of}
+use Rattle.bytes.specs.Text.{text-of}
 use Rattle.bench.specs.Page.{page-of, steps-of}
 use Rattle.bench.specs.Print.{step-lines}
 use Rattle.bench.proofs.Printing.{lines-more, lines-within, length-step-lines, lines-next, label-is, all-shown}

@@ -3,7 +3,7 @@ use Rattle.std.specs.declared.result.Result.the-variants.{Err}
 use Rattle.std.proofs.shelf.Results.{err-from-errBy}
 use Rattle.std.proofs.shelf.Tests.{false≢true}
 use Rattle.bench.specs.declared.fault.BenchFault.the-variants.{WrongStanding}
-use Rattle.bench.specs.Text.{text-of}
+use Rattle.bytes.specs.Text.{text-of}
 use Rattle.bench.specs.Page.{page-of}
 use Rattle.bench.specs.Calls.{released, accepted, after}
 use Rattle.bench.proofs.Calling.{not-open, open-stopped, open-ends}

@@ -5,7 +5,7 @@ use native.Mathlib.Omega.{arith}
 use lib.ListN.{length, take, getD, length-map, length-take}
 use lib.Seq.{getD-take}
 use Rattle.std.specs.declared.result.Result.the-variants.{Ok}
-use Rattle.bench.specs.Text.{text-of}
+use Rattle.bytes.specs.Text.{text-of}
 use Rattle.bench.specs.Page.{page-of}
 use Rattle.bench.proofs.Following.{goes-on, stops, arrives, starts}
 use Rattle.bench.proofs.sheet.Sheet.replay.Needs as need
@@ -16,12 +16,12 @@ loop-i-again g c =
     goes-on (g .S·StepSystem .transitions (c .args .system .now)) (text-of (c .loop-i .state)) (take (c .args .count) rows) (c .loop-i .i) (c .row .result .now) (text-of (c .in-Ok .next)) _
     (simp (length-take, length-map) (omega arith)) (c .row .ensures .value ∙ sym (getD-take (c .args .count) rows (c .loop-i .i) [] (omega arith))) (c .in-Ok .ensures tt) (c .loop-i .inv)
 
-pub returns-in-Err-next : need.returns-in-Err-next
-returns-in-Err-next g c =
+pub returns-in-Err-following : need.returns-in-Err-following
+returns-in-Err-following g c =
     let rows = page-of (c .args .self .now) .rows in
     starts (g .S·StepSystem .transitions (c .args .system .now)) (text-of (c .args .self .now .start)) (take (c .args .count) rows) _ (sym (rw (c .text .ensures .value) at (c .in-rest .ensures tt)))
-    (stops (g .S·StepSystem .transitions (c .args .system .now)) (text-of (c .loop-i .state)) (take (c .args .count) rows) (c .loop-i .i) (c .row .result .now) (c .in-Err-next .fault) _
-    (simp (length-take, length-map) (omega arith)) (c .row .ensures .value ∙ sym (getD-take (c .args .count) rows (c .loop-i .i) [] (omega arith))) (c .in-Err-next .ensures tt) (c .loop-i .inv))
+    (stops (g .S·StepSystem .transitions (c .args .system .now)) (text-of (c .loop-i .state)) (take (c .args .count) rows) (c .loop-i .i) (c .row .result .now) (c .in-Err-following .fault) _
+    (simp (length-take, length-map) (omega arith)) (c .row .ensures .value ∙ sym (getD-take (c .args .count) rows (c .loop-i .i) [] (omega arith))) (c .in-Err-following .ensures tt) (c .loop-i .inv))
 
 pub returns : need.returns
 returns g c =

@@ -1,7 +1,7 @@
 use mathlib.Core.Path.{_≡_}
 use Prim.Native.Nat.{_+_}
 use lib.ListN.{take, drop}
-use Rattle.bench.specs.Text.{text-of}
+use Rattle.bytes.specs.Text.{text-of}
 use Rattle.bench.specs.Page.{page-of}
 use Rattle.bench.specs.Replay.{followed}
 use Rattle.bench.proofs.sheet.Sheet.replay.Given as given

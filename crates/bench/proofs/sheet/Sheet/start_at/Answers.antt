@@ -6,9 +6,9 @@ use Rattle.bench.specs.declared.fault.BenchFault.the-variants.{WrongStanding, 
 use mathlib.Core.List.{List}
 use Rattle.steps.specs.Meaning.{Str}
 use Rattle.bench.specs.declared.sheet.Standing.the-variants.{Open}
-use Rattle.bench.specs.Text.{text-of}
+use Rattle.bytes.specs.Text.{text-of}
 use Rattle.bench.specs.Page.{Page, page-of}
-use Rattle.bench.proofs.Texts.{fitted-is}
+use Rattle.bytes.proofs.Texts.{fitted-is}
 use Rattle.bench.specs.Calls.{opened, accepted, after}
 use Rattle.bench.proofs.Calling.{was-released, opened-refused, opened-at, state-held}
 use Rattle.bench.proofs.sheet.Sheet.start_at.Needs as need

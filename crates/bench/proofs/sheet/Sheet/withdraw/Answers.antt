@@ -8,7 +8,7 @@ use Rattle.std.proofs.shelf.Tests.{false≢true}
 use Rattle.bytes.specs.Buffer.{count, kept}
 use Rattle.steps.proofs.Answered.{counted, not-counted}
 use Rattle.bench.specs.declared.fault.BenchFault.the-variants.{WrongStanding}
-use Rattle.bench.specs.Text.{text-of}
+use Rattle.bytes.specs.Text.{text-of}
 use Rattle.bench.specs.Page.{page-of}
 use Rattle.bench.specs.Calls.{withdrawn, answered, after}
 use Rattle.bench.proofs.Calling.{not-open, open-stopped, withdrawn-none, withdrawn-stopped, withdrawn-refused, withdrawn-last}
