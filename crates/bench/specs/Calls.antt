@@ -64,18 +64,18 @@ module _ (t : Transitions) where
   abbrev pub added : Str → ℕ → Page → Outcome
   added x n p =
       when-open p (then (end-told t p) (λ a.
-          cond (ltb (p .len) 32)
-            (then (from-system (next-told t a x n)) (λ b. Ok (record { answer = b; page = record { standing = Open; len = p .len + 1; start = p .start; rows = set (p .rows) (p .len) x } })))
-            (Err Full)))
+      cond (ltb (p .len) 32)
+      (then (from-system (next-told t a x n)) (λ b. Ok (record { answer = b; page = record { standing = Open; len = p .len + 1; start = p .start; rows = set (p .rows) (p .len) x } })))
+      (Err Full)))
 
   -- a withdrawal, its answer asked for in a buffer of n bytes: the last step goes
   abbrev pub withdrawn : ℕ → Page → Outcome
   withdrawn n p =
       when-open p (then (end-told t p) (λ _.
-          cond (ltb 0 (p .len))
-            (then (replayed t (p .start) (take (p .len - 1) (p .rows))) (λ a.
-              then (from-system (state-fits a n)) (λ b. Ok (record { answer = b; page = record { standing = Open; len = p .len - 1; start = p .start; rows = p .rows } }))))
-            (Err (NoSuchStep 0))))
+      cond (ltb 0 (p .len))
+      (then (replayed t (p .start) (take (p .len - 1) (p .rows))) (λ a.
+      then (from-system (state-fits a n)) (λ b. Ok (record { answer = b; page = record { standing = Open; len = p .len - 1; start = p .start; rows = p .rows } }))))
+      (Err (NoSuchStep 0))))
 
   abbrev pub released : Page → Outcome
   released p = when-open p (then (end-told t p) (λ _. Ok (record { answer = []; page = record { standing = Released; len = p .len; start = p .start; rows = p .rows } })))

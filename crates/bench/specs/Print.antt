@@ -36,4 +36,4 @@ text-length p a = (2 * length (p .start) + 5) + (lines-length (steps-of p) + (2 
 abbrev pub printed : Transitions → ℕ → Page → Outcome
 printed t n p =
     when-released p (then (end-told t p) (λ a.
-        cond (leb (length (sheet-text t p a)) n) (Ok (record { answer = sheet-text t p a; page = p })) (Err (TextTooLong (told-length (length (sheet-text t p a)))))))
+    cond (leb (length (sheet-text t p a)) n) (Ok (record { answer = sheet-text t p a; page = p })) (Err (TextTooLong (told-length (length (sheet-text t p a)))))))

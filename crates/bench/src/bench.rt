@@ -1,5 +1,6 @@
 // The four sheets.
 use crate::sheet::Sheet;
+
 pub mod calls;
 
 #[derive(Clone, Copy)]

@@ -29,13 +29,37 @@ impl BenchFault {
         ensures { λ r. ⌜ r ≡ bench-refusal self ⌝ }
     {
         match self {
-            BenchFault::NoSheet(place) => Refusal { number: 3, layer: 2, place },
-            BenchFault::WrongStanding(place) => Refusal { number: 3, layer: 2, place },
+            BenchFault::NoSheet(place) => Refusal {
+                number: 3,
+                layer: 2,
+                place,
+            },
+            BenchFault::WrongStanding(place) => Refusal {
+                number: 3,
+                layer: 2,
+                place,
+            },
             BenchFault::System(fault) => fault.refusal(),
-            BenchFault::TextTooLong(place) => Refusal { number: 8, layer: 2, place },
-            BenchFault::Full => Refusal { number: 9, layer: 2, place: 32 },
-            BenchFault::NoSuchStep(place) => Refusal { number: 10, layer: 2, place },
-            BenchFault::Stopped(place, _) => Refusal { number: 16, layer: 2, place },
+            BenchFault::TextTooLong(place) => Refusal {
+                number: 8,
+                layer: 2,
+                place,
+            },
+            BenchFault::Full => Refusal {
+                number: 9,
+                layer: 2,
+                place: 32,
+            },
+            BenchFault::NoSuchStep(place) => Refusal {
+                number: 10,
+                layer: 2,
+                place,
+            },
+            BenchFault::Stopped(place, _) => Refusal {
+                number: 16,
+                layer: 2,
+                place,
+            },
         }
     }
 

@@ -3,9 +3,11 @@ ghost use mathlib.Core.Path.{_≡_};
 ghost use Prim.Native.Nat.{_≤_};
 ghost use lib.ListN.{length};
 use bytes::held::Held;
-pub mod calls;
-pub mod print;
-pub mod replay;
+
+mod calls;
+mod print;
+mod release;
+mod replay;
 
 // A blank sheet has no run; an open one can be changed; a released one can be printed.
 #[derive(Clone, Copy)]

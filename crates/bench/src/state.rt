@@ -10,7 +10,11 @@ use steps::fault::SystemFault;
 use steps::system::StepSystem;
 
 // The state that follows by a step, or why there is none.
-pub(crate) fn following<S: StepSystem>(system: &S, state: &Held<256>, step: &[u8]) -> Result<Held<256>, MaskFault>
+pub(crate) fn following<S: StepSystem>(
+    system: &S,
+    state: &Held<256>,
+    step: &[u8],
+) -> Result<Held<256>, MaskFault>
     ensures { λ r. ⌜ said r ≡ next-told (transitions (now (system .entry))) (text-of (now (state .entry))) (now (step .entry)) 256 ⌝ }
 {
     let mut bytes = [0u8; 256];

@@ -28,10 +28,13 @@ held-more s bytes n i held lt fits =
 -- a string over zeros is held
 module _ (s bytes : Str) (n : ℕ) (fits : length s ≤ n) (whole : bytes ≡ over s (replicate n 0)) where
   pub held-facts : (length s ≤ n) × ((length bytes ≡ n) × ((drop (length s) bytes ≡ replicate (n - length s) 0) × Unit {0}))
-  held-facts =
-      (fits,
-       (rw whole (simp (length-append, length-drop, length-replicate) (omega (arith, fits))),
-        (rw whole (drop-at s (drop (length s) (replicate n 0)) (length s) refl ∙ drop-replicate (length s) n 0), tt)))
+  held-facts = (
+    fits,
+    (
+      rw whole (simp (length-append, length-drop, length-replicate) (omega (arith, fits))),
+      (rw whole (drop-at s (drop (length s) (replicate n 0)) (length s) refl ∙ drop-replicate (length s) n 0), tt),
+    ),
+  )
 
   pub held-says : take (length s) bytes ≡ s
   held-says = rw whole (take-at s (drop (length s) (replicate n 0)) (length s) refl)
@@ -54,10 +57,13 @@ fitted-is s w n e = go (leb (length s) n) e
 module _ (bytes : Str) (n len b : ℕ) (long : length bytes ≡ n) (clear : drop len bytes ≡ replicate (n - len) 0) where
   pub push-facts : len < n → (len + 1 ≤ n) × ((length (set bytes len b) ≡ n) × ((drop (len + 1) (set bytes len b) ≡ replicate (n - (len + 1)) 0) × Unit {0}))
   push-facts room =
-      let less : n - len - 1 ≡ n - (len + 1) = omega arith in
-      (omega arith,
-       (length-set bytes len b ∙ long,
-        (drop-set-lt (len + 1) bytes len b (omega arith) ∙ sym (drop-drop 1 len bytes) ∙ ap (drop 1) clear ∙ drop-replicate 1 (n - len) 0 ∙ ap (λ k. replicate k 0) less, tt)))
+      let less : n - len - 1 ≡ n - (len + 1) = omega arith in (
+        omega arith,
+        (
+          length-set bytes len b ∙ long,
+          (drop-set-lt (len + 1) bytes len b (omega arith) ∙ sym (drop-drop 1 len bytes) ∙ ap (drop 1) clear ∙ drop-replicate 1 (n - len) 0 ∙ ap (λ k. replicate k 0) less, tt),
+        ),
+      )
 
   pub push-says : len < n → take (len + 1) (set bytes len b) ≡ take n (take len bytes ++ b ∷ [])
   push-says room =

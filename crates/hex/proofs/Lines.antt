@@ -29,6 +29,7 @@ line-written f b o p q room first second =
     let told = copied-over (line (f ++ b)) o (rw (length-both f b) room) in
     let front : p ≡ over (hex f) o = first ∙ copied-over (hex f) o (omega arith) .1 in
     let both : putMid (2 * length f) (length p - 2 * length f) p q ≡ over (hex f ++ hex b) o = copied-part (hex f) (hex b) o p q (2 * length f) lf (omega arith) front second in
-    let long : length (hex f ++ hex b) ≡ 2 * (length f + length b) = length-append (hex f) (hex b) ∙ omega arith in
-    (ap Some (sym (length-both f b)) ∙ told .0,
-     ap (λ w. set w (2 * (length f + length b)) 10) both ∙ over-byte (hex f ++ hex b) o 10 (2 * (length f + length b)) long (omega arith) ∙ ap (λ w. over (w ++ 10 ∷ []) o) (sym (hex-append f b)) ∙ sym (told .1))
+    let long : length (hex f ++ hex b) ≡ 2 * (length f + length b) = length-append (hex f) (hex b) ∙ omega arith in (
+      ap Some (sym (length-both f b)) ∙ told .0,
+      ap (λ w. set w (2 * (length f + length b)) 10) both ∙ over-byte (hex f ++ hex b) o 10 (2 * (length f + length b)) long (omega arith) ∙ ap (λ w. over (w ++ 10 ∷ []) o) (sym (hex-append f b)) ∙ sym (told .1),
+    )

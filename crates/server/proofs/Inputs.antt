@@ -57,8 +57,8 @@ pub kept-on : (l : Str) (b : ℕ) → take line-limit (take line-limit l ++ b �
 kept-on l b =
     ⊎-elim
     (λ (past : line-limit < length l).
-        let size : length (take line-limit l) ≡ line-limit = length-take-le line-limit l (omega arith) in
-        take-append-le line-limit (take line-limit l) (b ∷ []) (omega arith) ∙ take-all line-limit (take line-limit l) (omega arith) ∙ sym (take-append-le line-limit l (b ∷ []) (omega arith)))
+    let size : length (take line-limit l) ≡ line-limit = length-take-le line-limit l (omega arith) in
+    take-append-le line-limit (take line-limit l) (b ∷ []) (omega arith) ∙ take-all line-limit (take line-limit l) (omega arith) ∙ sym (take-append-le line-limit l (b ∷ []) (omega arith)))
     (λ (within : length l ≤ line-limit). ap (λ t. take line-limit (t ++ b ∷ [])) (take-all line-limit l within))
     (cases-lt line-limit (length l))
 

@@ -13,8 +13,8 @@ use crate::server::Server;
 use crate::text;
 use bench::bench::Bench;
 use frame::fault::FrameFault;
-use frame::frame::Frame;
 use frame::frame::FRAME_LIMIT;
+use frame::frame::Frame;
 use nets::net::Net;
 
 impl Server {
@@ -22,7 +22,10 @@ impl Server {
     pub fn new() -> Server
         ensures { λ r. ⌜ model-of r ≡ record { events = []; pages = replicate 4 blank-page } ⌝ }
     {
-        Server { net: Net::new(), bench: Bench::new() }
+        Server {
+            net: Net::new(),
+            bench: Bench::new(),
+        }
     }
 
     // Answers a line: the text stands at the front of `out`, and its length is the answer.

@@ -131,7 +131,8 @@ impl Server {
         ensures model { λ _. ⌜ model-of (now (self .exit)) ≡ frame-reply (model-of (now (self .entry))) (print sheet) .model ⌝ }
         ensures bound { λ r. ⌜ r ≤ 5222 ⌝ }
     {
-        match self.bench.print(&self.net, sheet, &mut out[0..text::TEXT_LIMIT]) {
+        match self.bench
+            .print(&self.net, sheet, &mut out[0..text::TEXT_LIMIT]) {
             Ok(n) => n,
             Err(fault) => text::refuse_call(fault, out),
         }

@@ -1,6 +1,7 @@
 // Input byte by byte: lines are gathered, and answered at their end.
 use crate::server::Server;
 use bytes::held::Held;
+
 pub mod input;
 
 // What is kept of a line: one character more than the longest frame has decides that a line is too long.

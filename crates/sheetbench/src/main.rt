@@ -10,7 +10,12 @@ use std::io::Write;
 const CHUNK: usize = 32768;
 
 // Answers the lines that end in a chunk of input, and writes what is answered before it returns.
-fn serve<W: Write>(session: &mut Session, input: &[u8], out: &mut [u8], output: &mut W) -> io::Result<()>
+fn serve<W: Write>(
+    session: &mut Session,
+    input: &[u8],
+    out: &mut [u8],
+    output: &mut W,
+) -> io::Result<()>
     requires { ⌜ 5222 ≤ length (now out) ⌝ }
 {
     let mut used = 0;

@@ -38,11 +38,31 @@ impl SystemFault {
         ensures { λ r. ⌜ r ≡ system-refusal self ⌝ }
     {
         match self {
-            SystemFault::NoState(place) => Refusal { number: 4, layer: 4, place },
-            SystemFault::NoStep(place) => Refusal { number: 5, layer: 4, place },
-            SystemFault::Impossible(place) => Refusal { number: 6, layer: 4, place },
-            SystemFault::StateTooLong(place) => Refusal { number: 8, layer: 4, place },
-            SystemFault::StepTooLong(place) => Refusal { number: 12, layer: 4, place },
+            SystemFault::NoState(place) => Refusal {
+                number: 4,
+                layer: 4,
+                place,
+            },
+            SystemFault::NoStep(place) => Refusal {
+                number: 5,
+                layer: 4,
+                place,
+            },
+            SystemFault::Impossible(place) => Refusal {
+                number: 6,
+                layer: 4,
+                place,
+            },
+            SystemFault::StateTooLong(place) => Refusal {
+                number: 8,
+                layer: 4,
+                place,
+            },
+            SystemFault::StepTooLong(place) => Refusal {
+                number: 12,
+                layer: 4,
+                place,
+            },
         }
     }
 }
@@ -52,7 +72,11 @@ impl MaskFault {
         ensures { λ r. ⌜ r ≡ mask-refusal self ⌝ }
     {
         match self {
-            MaskFault::Masked => Refusal { number: 7, layer: 3, place: 0 },
+            MaskFault::Masked => Refusal {
+                number: 7,
+                layer: 3,
+                place: 0,
+            },
             MaskFault::Inner(fault) => fault.refusal(),
         }
     }

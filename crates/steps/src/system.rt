@@ -11,6 +11,7 @@ use crate::label::Label;
 
 // The longest state and the longest step that a question takes or answers.
 pub const STATE_LIMIT: usize = 256;
+
 pub const STEP_LIMIT: usize = 64;
 
 // A question changes nothing. It answers the meaning, or the first refusal in the order: no step, masked, no state, not possible, too long.

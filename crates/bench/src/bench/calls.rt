@@ -20,11 +20,18 @@ impl Bench {
     pub fn new() -> Bench
         ensures { λ r. ⌜ pages-of r ≡ replicate 4 blank-page ⌝ }
     {
-        Bench { sheets: [Sheet::blank(); 4] }
+        Bench {
+            sheets: [Sheet::blank(); 4],
+        }
     }
 
     // Opens a sheet at a start, with no steps.
-    pub fn open_sheet<S: StepSystem>(&mut self, system: &S, sheet: u8, state: &[u8]) -> Result<(), BenchFault>
+    pub fn open_sheet<S: StepSystem>(
+        &mut self,
+        system: &S,
+        sheet: u8,
+        state: &[u8],
+    ) -> Result<(), BenchFault>
         ensures answer { λ r. ⌜ r ≡ accepted (on-sheet (pages-of (now (self .entry))) sheet (opened (transitions (now (system .entry))) (now (state .entry)))) ⌝ }
         ensures pages { λ _. ⌜ pages-of (now (self .exit)) ≡ pages-after (on-sheet (pages-of (now (self .entry))) sheet (opened (transitions (now (system .entry))) (now (state .entry)))) (pages-of (now (self .entry))) sheet ⌝ }
         ensures untouched { λ r. ⌜ (isErr r ≡ true → now (self .exit) ≡ now (self .entry)) ⌝ }
@@ -37,7 +44,13 @@ impl Bench {
     }
 
     // Adds a step behind the others, and answers the end state.
-    pub fn add<S: StepSystem>(&mut self, system: &S, sheet: u8, step: &[u8], out: &mut [u8]) -> Result<usize, BenchFault>
+    pub fn add<S: StepSystem>(
+        &mut self,
+        system: &S,
+        sheet: u8,
+        step: &[u8],
+        out: &mut [u8],
+    ) -> Result<usize, BenchFault>
         ensures answer { λ r. ⌜ r ≡ count (answered (on-sheet (pages-of (now (self .entry))) sheet (added (transitions (now (system .entry))) (now (step .entry)) (length (now (out .entry)))))) ⌝ }
         ensures buffer { λ _. ⌜ now (out .exit) ≡ kept (answered (on-sheet (pages-of (now (self .entry))) sheet (added (transitions (now (system .entry))) (now (step .entry)) (length (now (out .entry)))))) (now (out .entry)) ⌝ }
         ensures pages { λ _. ⌜ pages-of (now (self .exit)) ≡ pages-after (on-sheet (pages-of (now (self .entry))) sheet (added (transitions (now (system .entry))) (now (step .entry)) (length (now (out .entry))))) (pages-of (now (self .entry))) sheet ⌝ }
@@ -51,7 +64,12 @@ impl Bench {
     }
 
     // Takes the last step away, and answers the end state.
-    pub fn withdraw<S: StepSystem>(&mut self, system: &S, sheet: u8, out: &mut [u8]) -> Result<usize, BenchFault>
+    pub fn withdraw<S: StepSystem>(
+        &mut self,
+        system: &S,
+        sheet: u8,
+        out: &mut [u8],
+    ) -> Result<usize, BenchFault>
         ensures answer { λ r. ⌜ r ≡ count (answered (on-sheet (pages-of (now (self .entry))) sheet (withdrawn (transitions (now (system .entry))) (length (now (out .entry)))))) ⌝ }
         ensures buffer { λ _. ⌜ now (out .exit) ≡ kept (answered (on-sheet (pages-of (now (self .entry))) sheet (withdrawn (transitions (now (system .entry))) (length (now (out .entry)))))) (now (out .entry)) ⌝ }
         ensures pages { λ _. ⌜ pages-of (now (self .exit)) ≡ pages-after (on-sheet (pages-of (now (self .entry))) sheet (withdrawn (transitions (now (system .entry))) (length (now (out .entry))))) (pages-of (now (self .entry))) sheet ⌝ }
@@ -91,7 +109,12 @@ impl Bench {
     }
 
     // Prints a released sheet over the front of `out`, and answers the text's length.
-    pub fn print<S: StepSystem>(&self, system: &S, sheet: u8, out: &mut [u8]) -> Result<usize, BenchFault>
+    pub fn print<S: StepSystem>(
+        &self,
+        system: &S,
+        sheet: u8,
+        out: &mut [u8],
+    ) -> Result<usize, BenchFault>
         ensures answer { λ r. ⌜ r ≡ count (answered (on-sheet (pages-of (now (self .entry))) sheet (printed (transitions (now (system .entry))) (length (now (out .entry)))))) ⌝ }
         ensures buffer { λ _. ⌜ now (out .exit) ≡ kept (answered (on-sheet (pages-of (now (self .entry))) sheet (printed (transitions (now (system .entry))) (length (now (out .entry)))))) (now (out .entry)) ⌝ }
         ensures bound { λ r. ⌜ made r (λ n. n ≤ 5222) ⌝ }

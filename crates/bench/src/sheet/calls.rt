@@ -1,18 +1,18 @@
-// The calls that change a sheet.
+// Opening a sheet, and the calls that change its steps.
 ghost use mathlib.Core.Path.{_≡_};
 ghost use mathlib.Core.Bool.{true};
 ghost use lib.ListN.{length};
 ghost use Rattle.std.specs.Results.{isErr};
 ghost use Rattle.bytes.specs.Buffer.{count, kept};
 ghost use Rattle.bench.specs.Page.{page-of, blank-page};
-ghost use Rattle.bench.specs.Calls.{answered, accepted, after, opened, added, withdrawn, released, reopened};
+ghost use Rattle.bench.specs.Calls.{answered, accepted, after, opened, added, withdrawn};
 use crate::fault::BenchFault;
 use crate::fault::BenchFaultFromMask;
-use bytes::held::Held;
 use crate::sheet::Head;
 use crate::sheet::Sheet;
 use crate::sheet::Standing;
 use crate::state::answer;
+use bytes::held::Held;
 use steps::system::StepSystem;
 
 impl Sheet {
@@ -20,12 +20,23 @@ impl Sheet {
     pub(crate) fn blank() -> Sheet
         ensures { λ r. ⌜ page-of r ≡ blank-page ⌝ }
     {
-        let head = Head { standing: Standing::Blank, len: 0 };
-        Sheet { head, start: Held::empty(), rows: [Held::empty(); 32] }
+        let head = Head {
+            standing: Standing::Blank,
+            len: 0,
+        };
+        Sheet {
+            head,
+            start: Held::empty(),
+            rows: [Held::empty(); 32],
+        }
     }
 
     // Opens a blank sheet, or an open one anew, at a start.
-    pub(crate) fn start_at<S: StepSystem>(&mut self, system: &S, state: &[u8]) -> Result<(), BenchFault>
+    pub(crate) fn start_at<S: StepSystem>(
+        &mut self,
+        system: &S,
+        state: &[u8],
+    ) -> Result<(), BenchFault>
         ensures answer { λ r. ⌜ r ≡ accepted (opened (transitions (now (system .entry))) (now (state .entry)) (page-of (now (self .entry)))) ⌝ }
         ensures page { λ _. ⌜ page-of (now (self .exit)) ≡ after (opened (transitions (now (system .entry))) (now (state .entry)) (page-of (now (self .entry)))) (page-of (now (self .entry))) ⌝ }
         ensures untouched { λ r. ⌜ (isErr r ≡ true → now (self .exit) ≡ now (self .entry)) ⌝ }
@@ -37,13 +48,21 @@ impl Sheet {
         let Some(start) = Held::of(state) else {
             return unreachable();
         };
-        self.head = Head { standing: Standing::Open, len: 0 };
+        self.head = Head {
+            standing: Standing::Open,
+            len: 0,
+        };
         self.start = start;
         Ok(())
     }
 
     // Adds a step behind the others, and answers the end state.
-    pub(crate) fn add<S: StepSystem>(&mut self, system: &S, step: &[u8], out: &mut [u8]) -> Result<usize, BenchFault>
+    pub(crate) fn add<S: StepSystem>(
+        &mut self,
+        system: &S,
+        step: &[u8],
+        out: &mut [u8],
+    ) -> Result<usize, BenchFault>
         ensures answer { λ r. ⌜ r ≡ count (answered (added (transitions (now (system .entry))) (now (step .entry)) (length (now (out .entry))) (page-of (now (self .entry))))) ⌝ }
         ensures buffer { λ _. ⌜ now (out .exit) ≡ kept (answered (added (transitions (now (system .entry))) (now (step .entry)) (length (now (out .entry))) (page-of (now (self .entry))))) (now (out .entry)) ⌝ }
         ensures page { λ _. ⌜ page-of (now (self .exit)) ≡ after (added (transitions (now (system .entry))) (now (step .entry)) (length (now (out .entry))) (page-of (now (self .entry)))) (page-of (now (self .entry))) ⌝ }
@@ -62,12 +81,19 @@ impl Sheet {
             return unreachable();
         };
         self.rows[head.len] = row;
-        self.head = Head { standing: Standing::Open, len: head.len + 1 };
+        self.head = Head {
+            standing: Standing::Open,
+            len: head.len + 1,
+        };
         Ok(n)
     }
 
     // Takes the last step away, and answers the end state.
-    pub(crate) fn withdraw<S: StepSystem>(&mut self, system: &S, out: &mut [u8]) -> Result<usize, BenchFault>
+    pub(crate) fn withdraw<S: StepSystem>(
+        &mut self,
+        system: &S,
+        out: &mut [u8],
+    ) -> Result<usize, BenchFault>
         ensures answer { λ r. ⌜ r ≡ count (answered (withdrawn (transitions (now (system .entry))) (length (now (out .entry))) (page-of (now (self .entry))))) ⌝ }
         ensures buffer { λ _. ⌜ now (out .exit) ≡ kept (answered (withdrawn (transitions (now (system .entry))) (length (now (out .entry))) (page-of (now (self .entry))))) (now (out .entry)) ⌝ }
         ensures page { λ _. ⌜ page-of (now (self .exit)) ≡ after (withdrawn (transitions (now (system .entry))) (length (now (out .entry))) (page-of (now (self .entry)))) (page-of (now (self .entry))) ⌝ }
@@ -83,37 +109,10 @@ impl Sheet {
         }
         let end = self.replay(system, head.len - 1)?;
         let n = answer(&end, out)?;
-        self.head = Head { standing: Standing::Open, len: head.len - 1 };
+        self.head = Head {
+            standing: Standing::Open,
+            len: head.len - 1,
+        };
         Ok(n)
-    }
-
-    // Releases an open sheet.
-    pub(crate) fn release<S: StepSystem>(&mut self, system: &S) -> Result<(), BenchFault>
-        ensures answer { λ r. ⌜ r ≡ accepted (released (transitions (now (system .entry))) (page-of (now (self .entry)))) ⌝ }
-        ensures page { λ _. ⌜ page-of (now (self .exit)) ≡ after (released (transitions (now (system .entry))) (page-of (now (self .entry)))) (page-of (now (self .entry))) ⌝ }
-        ensures untouched { λ r. ⌜ (isErr r ≡ true → now (self .exit) ≡ now (self .entry)) ⌝ }
-    {
-        let head = self.head;
-        let Standing::Open = head.standing else {
-            return Err(BenchFault::WrongStanding(1));
-        };
-        self.replay(system, head.len)?;
-        self.head = Head { standing: Standing::Released, len: head.len };
-        Ok(())
-    }
-
-    // Opens a released sheet again.
-    pub(crate) fn reopen<S: StepSystem>(&mut self, system: &S) -> Result<(), BenchFault>
-        ensures answer { λ r. ⌜ r ≡ accepted (reopened (transitions (now (system .entry))) (page-of (now (self .entry)))) ⌝ }
-        ensures page { λ _. ⌜ page-of (now (self .exit)) ≡ after (reopened (transitions (now (system .entry))) (page-of (now (self .entry)))) (page-of (now (self .entry))) ⌝ }
-        ensures untouched { λ r. ⌜ (isErr r ≡ true → now (self .exit) ≡ now (self .entry)) ⌝ }
-    {
-        let head = self.head;
-        let Standing::Released = head.standing else {
-            return Err(BenchFault::WrongStanding(1));
-        };
-        self.replay(system, head.len)?;
-        self.head = Head { standing: Standing::Open, len: head.len };
-        Ok(())
     }
 }

@@ -12,9 +12,9 @@ ghost use Rattle.bench.specs.Replay.{end-told};
 ghost use Rattle.bench.specs.Calls.{answered};
 ghost use Rattle.bench.specs.Print.{step-lines, lines-length, sheet-text, text-length, printed};
 use crate::fault::BenchFault;
-use bytes::held::Held;
 use crate::sheet::Sheet;
 use crate::sheet::Standing;
+use bytes::held::Held;
 use hex::line;
 use steps::system::StepSystem;
 
@@ -51,7 +51,11 @@ impl Sheet {
     }
 
     // Writes the text of a released sheet over the front of `out`, and answers its length.
-    pub(crate) fn print<S: StepSystem>(&self, system: &S, out: &mut [u8]) -> Result<usize, BenchFault>
+    pub(crate) fn print<S: StepSystem>(
+        &self,
+        system: &S,
+        out: &mut [u8],
+    ) -> Result<usize, BenchFault>
         ensures answer { λ r. ⌜ r ≡ count (answered (printed (transitions (now (system .entry))) (length (now (out .entry))) (page-of (now (self .entry))))) ⌝ }
         ensures buffer { λ _. ⌜ now (out .exit) ≡ kept (answered (printed (transitions (now (system .entry))) (length (now (out .entry))) (page-of (now (self .entry))))) (now (out .entry)) ⌝ }
         ensures bound { λ r. ⌜ made r (λ n. n ≤ 5222) ⌝ }

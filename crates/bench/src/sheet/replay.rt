@@ -7,9 +7,9 @@ ghost use Rattle.bytes.specs.Text.{text-of, said};
 ghost use Rattle.bench.specs.Page.{page-of};
 ghost use Rattle.bench.specs.Replay.{replayed};
 use crate::fault::BenchFault;
-use bytes::held::Held;
 use crate::sheet::Sheet;
 use crate::state::following;
+use bytes::held::Held;
 use steps::system::StepSystem;
 
 impl Sheet {
@@ -23,7 +23,11 @@ impl Sheet {
     }
 
     // The state that the first `count` rows lead to from the start, or the row that stops them.
-    pub(crate) fn replay<S: StepSystem>(&self, system: &S, count: usize) -> Result<Held<256>, BenchFault>
+    pub(crate) fn replay<S: StepSystem>(
+        &self,
+        system: &S,
+        count: usize,
+    ) -> Result<Held<256>, BenchFault>
         requires { ⌜ count ≤ 32 ⌝ }
         ensures { λ r. ⌜ said r ≡ replayed (transitions (now (system .entry))) (text-of (now (self .entry) .start)) (take count (page-of (now (self .entry)) .rows)) ⌝ }
     {

@@ -5,15 +5,18 @@ ghost use Prim.Native.Nat.{_≤_};
 ghost use lib.ListN.{length, take};
 ghost use Rattle.bytes.specs.Buffer.{copied-length, copied};
 ghost use Rattle.bytes.specs.Text.{text-of, held-told, fitted};
-use crate::held::Held;
 use crate::buffer;
+use crate::held::Held;
 
 impl<const N: usize> Held<N> {
     // The empty string.
     pub fn empty() -> Held<N>
         ensures { λ r. ⌜ text-of r ≡ [] ⌝ }
     {
-        Held { len: 0, bytes: [0; N] }
+        Held {
+            len: 0,
+            bytes: [0; N],
+        }
     }
 
     // Holds a string; none where it is longer than N bytes.

@@ -21,7 +21,10 @@ impl Session {
         ensures model { λ r. ⌜ model-of (r .server) ≡ record { events = []; pages = replicate 4 blank-page } ⌝ }
         ensures line { λ r. ⌜ text-of (r .line) ≡ [] ⌝ }
     {
-        Session { server: Server::new(), line: Held::empty() }
+        Session {
+            server: Server::new(),
+            line: Held::empty(),
+        }
     }
 
     // Takes a byte of input. A line end answers the line: the text stands at the front of `out`, and its length is the answer.
