@@ -1,0 +1,10 @@
+mod Turning
+mod Replays
+mod Unable
+mod Sound
+mod Verdict
+mod Opening
+mod Adding
+mod Withdrawing
+mod Promised
+mod Performing
