@@ -1,12 +1,12 @@
 -- How the calls on a page come out, by the sheet's standing and its replay. Assumes nothing.
 use mathlib.Core.Path.{_≡_, refl, sym, ap, _∙_}
-use mathlib.Core.Bool.{cond}
+use mathlib.Core.Bool.{false, cond}
 use mathlib.Core.List.{[]}
 use Prim.Native.Nat.{ℕ, _+_, _-_, _≤_, _<_}
 use native.Mathlib.Omega.{arith}
 use lib.Dec.{leb, ltb}
 use lib.ListN.{length, take, set}
-use Rattle.std.proofs.shelf.Tests.{cond-true, cond-false, lt-ltb, le-ltb, le-leb}
+use Rattle.std.proofs.shelf.Tests.{both-ways, cond-true, cond-false, lt-ltb, le-ltb, le-leb}
 use Rattle.std.specs.declared.option.Option.the-variants.{None, Some}
 use Rattle.std.specs.declared.result.Result.{Result}
 use Rattle.std.specs.declared.result.Result.the-variants.{Ok, Err}
@@ -128,8 +128,8 @@ module _ {t : Transitions} {i : Independence} (laws : Laws t i) where
       let short = laws .states-told s .0 (state-ok t s (sym e)) .1 in
       some-not-none s (sym (cond-true (leb (length s) 256) (Some s) None (le-leb _ _ short)) ∙ sym none)
 
-  pub step-held : (a x b : Str) (n : ℕ) → next-told t a x n ≡ Ok b → None ≡ fitted 64 x → ⊥
+  pub step-held : (a x b : Str) (n : ℕ) → next-told t a x n ≡ Ok b → false ≡ leb (length x) 64 → ⊥
   step-held a x b n e none =
       let f = next-ok t a x b n e in
       let short = laws .steps-told x .0 (f .shaped, f .shown) .1 in
-      some-not-none x (sym (cond-true (leb (length x) 64) (Some x) None (le-leb _ _ short)) ∙ sym none)
+      both-ways (leb (length x) 64) (sym none) (le-leb _ _ short)

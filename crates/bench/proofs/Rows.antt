@@ -1,6 +1,6 @@
 -- Rows and states as held strings. Assumes nothing.
 use mathlib.Core.Path.{_≡_, refl, sym, ap, _∙_}
-use mathlib.Core.Bool.{cond}
+use mathlib.Core.Bool.{true, cond}
 use mathlib.Core.List.{List, map}
 use Prim.Native.Nat.{ℕ, _-_, _≤_}
 use native.Mathlib.Omega.{arith}
@@ -19,8 +19,8 @@ use Rattle.steps.specs.Told.{next-told}
 use Rattle.steps.proofs.Answered.{counted, next-ok, some-not-none}
 
 -- one row written
-pub row-put : {n : ℕ} (rows : List (Held n)) (i : ℕ) (row : Held n) (x : Str) → Some (text-of row) ≡ fitted n x → map text-of (set rows i row) ≡ set (map text-of rows) i x
-row-put {n} rows i row x e = map-set text-of rows i row ∙ ap (λ w. set (map text-of rows) i w) (fitted-is x (text-of row) n e)
+pub row-put : {n : ℕ} (rows : List (Held n)) (i : ℕ) (row : Held n) (x old : Str) → text-of row ≡ cond (leb (length x) n) x old → true ≡ leb (length x) n → map text-of (set rows i row) ≡ set (map text-of rows) i x
+row-put {n} rows i row x old e fits = map-set text-of rows i row ∙ ap (λ w. set (map text-of rows) i w) (e ∙ cond-true (leb (length x) n) x old (sym fits))
 
 -- a state that follows, at the front of a buffer
 module _ (t : Transitions) (a x bytes zeros : Str) (len : ℕ) (answer : Ok len ≡ count (next-told t a x 256)) (buffer : bytes ≡ kept (next-told t a x 256) zeros) where

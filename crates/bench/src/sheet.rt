@@ -1,7 +1,5 @@
 // A run sheet: its standing, its start and its steps.
-ghost use mathlib.Core.Path.{_≡_};
 ghost use Prim.Native.Nat.{_≤_};
-ghost use lib.ListN.{length};
 use bytes::held::Held;
 
 mod calls;
@@ -31,5 +29,4 @@ pub struct Sheet {
     head: Head,
     start: Held<256>,
     rows: [Held<64>; 32],
-    ghost table: { length rows ≡ 32 },
 }

@@ -77,10 +77,9 @@ impl Sheet {
             return Err(BenchFault::Full);
         }
         let n = system.next(end.text(), step, out)?;
-        let Some(row) = Held::of(step) else {
+        if !self.rows[head.len].put(step) {
             return unreachable();
-        };
-        self.rows[head.len] = row;
+        }
         self.head = Head {
             standing: Standing::Open,
             len: head.len + 1,

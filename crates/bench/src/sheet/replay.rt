@@ -18,6 +18,7 @@ impl Sheet {
         requires { ⌜ i < 32 ⌝ }
         ensures value { λ r. ⌜ now r ≡ getD (page-of (now (self .entry)) .rows) i [] ⌝ }
         ensures short { λ r. ⌜ length (now r) ≤ 64 ⌝ }
+        ensures inside { λ _. ⌜ i < length (page-of (now (self .entry)) .rows) ⌝ }
     {
         self.rows[i].text()
     }

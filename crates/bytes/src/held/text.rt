@@ -1,7 +1,9 @@
 // What a held string says, and how one is made and read out.
 ghost use mathlib.Core.Path.{_≡_};
+ghost use mathlib.Core.Bool.{false, cond};
 ghost use mathlib.Core.List.{[], _∷_, _++_};
 ghost use Prim.Native.Nat.{_≤_};
+ghost use lib.Dec.{leb};
 ghost use lib.ListN.{length, take};
 ghost use Rattle.bytes.specs.Buffer.{copied-length, copied};
 ghost use Rattle.bytes.specs.Text.{text-of, held-told, fitted};
@@ -32,6 +34,19 @@ impl<const N: usize> Held<N> {
             bytes[i] = *b;
         }
         Some(Held { len, bytes })
+    }
+
+    // Holds another string in the place of this one; false, and it stays as it was, where that is longer than N bytes.
+    pub fn put(&mut self, text: &[u8]) -> bool
+        ensures answer { λ r. ⌜ r ≡ leb (length (now (text .entry))) N ⌝ }
+        ensures text { λ _. ⌜ text-of (now (self .exit)) ≡ cond (leb (length (now (text .entry))) N) (now (text .entry)) (text-of (now (self .entry))) ⌝ }
+        ensures untouched { λ r. ⌜ (r ≡ false → now (self .exit) ≡ now (self .entry)) ⌝ }
+    {
+        let Some(held) = Held::of(text) else {
+            return false;
+        };
+        *self = held;
+        true
     }
 
     // The string.

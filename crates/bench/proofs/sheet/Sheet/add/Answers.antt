@@ -53,7 +53,7 @@ returns-in-Break-n g c =
 pub unreachable-requires : need.unreachable-requires
 unreachable-requires g c κs =
     let w = counted _ (c .in-Continue-n .n) (rw (c .text .ensures .value) at (c .in-Continue-n .ensures tt .answer)) in
-    step-held (g .S·StepSystem·met .lawful (c .args .system .now)) (text-of (c .in-Continue-end .end)) (c .args .step .now) (w .0) (length (c .args .out .now)) (w .1) (c .in-rest-of .ensures tt)
+    step-held (g .S·StepSystem·met .lawful (c .args .system .now)) (text-of (c .in-Continue-end .end)) (c .args .step .now) (w .0) (length (c .args .out .now)) (w .1) (c .if-not-put .ensures tt .answer)
 
 pub returns : need.returns
 unfolding longer
@@ -62,4 +62,4 @@ returns g c =
     let w = counted _ (c .in-Continue-n .n) (rw (c .text .ensures .value) at (c .in-Continue-n .ensures tt .answer)) in
     let b = rw (c .text .ensures .value) at (c .in-Continue-n .ensures tt .buffer) in
     let e = added-last (g .S·StepSystem .transitions (c .args .system .now)) p (c .args .step .now) (length (c .args .out .now)) (c .in-Open .is) (text-of (c .in-Continue-end .end)) (c .in-Continue-end .ensures tt) (w .0) (c .if-head-ge32 .left) (w .1) in
-    record { answer = ap Ok (w .2) ∙ sym (ap (λ o. count (answered o)) e); buffer = b ∙ ap (λ o. kept o (c .args .out .now)) (w .1) ∙ sym (ap (λ o. kept (answered o) (c .args .out .now)) e); page = ap (λ r. longer (p .len) (p .start) r) (row-put (c .args .self .now .rows) (p .len) (c .in-Some .row) (c .args .step .now) (c .in-Some .ensures tt)) ∙ sym (ap (λ o. after o p) e); untouched = λ h. absurd (false≢true h) }
+    record { answer = ap Ok (w .2) ∙ sym (ap (λ o. count (answered o)) e); buffer = b ∙ ap (λ o. kept o (c .args .out .now)) (w .1) ∙ sym (ap (λ o. kept (answered o) (c .args .out .now)) e); page = ap (λ r. longer (p .len) (p .start) r) (row-put (c .args .self .now .rows) (p .len) (c .put .last .self) (c .args .step .now) _ (c .put .ensures .text) (c .if-not-put .ensures tt .answer)) ∙ sym (ap (λ o. after o p) e); untouched = λ h. absurd (false≢true h) }

@@ -2,7 +2,7 @@ use mathlib.Core.Path.{_≡_, sym, ap, _∙_}
 use mathlib.Core.List.{[]}
 use Prim.Native.Nat.{_<_, _≤_, _+_}
 use native.Mathlib.Omega.{arith}
-use lib.ListN.{length, take, length-map, length-take}
+use lib.ListN.{length, take, length-take}
 use lib.Seq.{getD-take}
 use Rattle.bytes.specs.Buffer.{over}
 use Rattle.bytes.proofs.Over.{length-over}
@@ -17,7 +17,7 @@ pub unreachable-requires : need.unreachable-requires
 unreachable-requires g c κs =
     let p = page-of (c .args .self .now) in
     let t = g .S·StepSystem .transitions (c .args .system .now) in
-    let lt : c .loop-i .i < length (steps-of p) = simp (length-take, length-map) (omega arith) in
+    let lt : c .loop-i .i < length (steps-of p) = simp length-take (omega (arith, c .row-step .ensures .inside)) in
     let at = c .row-step .ensures .value ∙ sym (getD-take (p .len) (p .rows) (c .loop-i .i) [] (c .loop-i-test .taken)) in
     ok-not-err _ (c .in-rest .field-0) (sym (rw at at (c .in-rest .ensures tt) ∙ all-shown t (p .start) (steps-of p) (c .pre .replays) (c .loop-i .i) lt))
 
@@ -25,7 +25,7 @@ pub loop-i-again : need.loop-i-again
 loop-i-again g c =
     let p = page-of (c .args .self .now) in
     let t = g .S·StepSystem .transitions (c .args .system .now) in
-    let lt : c .loop-i .i < length (p .rows) = simp length-map (omega arith) in
+    let lt : c .loop-i .i < length (p .rows) = c .row-step .ensures .inside in
     let more = lines-more (p .rows) (c .loop-i .i) lt in
     let within = lines-within (p .rows) (c .loop-i .i + 1) (p .len) (omega arith) in
     let same = ap length (c .row-step .ensures .value) in
