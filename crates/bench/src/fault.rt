@@ -82,7 +82,7 @@ impl BenchFault {
 pub impl From<MaskFault> for BenchFault as BenchFaultFromMask {
     ghost converts = { λ f r. r ≡ System f };
 
-    fn from(fault: MaskFault) -> BenchFault {
-        BenchFault::System(fault)
+    fn from(refused: MaskFault) -> BenchFault {
+        BenchFault::System(refused)
     }
 }

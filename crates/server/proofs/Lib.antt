@@ -3,3 +3,4 @@ pub mod Building
 pub mod Replies
 pub mod Reading
 pub mod Inputs
+pub mod Setups

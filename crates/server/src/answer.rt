@@ -8,6 +8,7 @@ ghost use Rattle.bytes.specs.Buffer.{over};
 ghost use Rattle.frame.specs.Reading.{frame-told};
 ghost use Rattle.bench.specs.Page.{blank-page};
 ghost use Rattle.server.specs.Text.{text-limit};
+ghost use Rattle.server.specs.Setup.{Setups-give-nets};
 ghost use Rattle.server.specs.Answer.{model-of, bytes-reply, line-reply, reply-length, reply-buffer, reply-model};
 use crate::server::Server;
 use crate::text;
@@ -35,6 +36,7 @@ impl Server {
         ensures buffer { λ _. ⌜ now (out .exit) ≡ reply-buffer (line-reply (model-of (now (self .entry))) (now (line .entry))) (now (out .entry)) ⌝ }
         ensures model { λ _. ⌜ model-of (now (self .exit)) ≡ reply-model (line-reply (model-of (now (self .entry))) (now (line .entry))) (length (now (out .entry))) (model-of (now (self .entry))) ⌝ }
         ensures bound { λ r. ⌜ found r (λ n. n ≤ 5222) ⌝ }
+        ensures setups { λ _. ⌜ Setups-give-nets ⌝ }
     {
         if out.len() < text::TEXT_LIMIT {
             return None;

@@ -85,7 +85,7 @@ impl MaskFault {
 pub impl From<SystemFault> for MaskFault as MaskFaultFromSystem {
     ghost converts = { λ f r. r ≡ Inner f };
 
-    fn from(fault: SystemFault) -> MaskFault {
-        MaskFault::Inner(fault)
+    fn from(refused: SystemFault) -> MaskFault {
+        MaskFault::Inner(refused)
     }
 }

@@ -10,7 +10,11 @@ use Rattle.bytes.specs.Buffer.{over}
 use Rattle.server.specs.Text.{refusal-line}
 use Rattle.server.specs.Answer.{model-of, bytes-reply, read-reply, refused, line-reply}
 use Rattle.server.proofs.Reading.{read-ok, read-err, reply-long, reply-left, reply-kept}
+use Rattle.server.proofs.Setups.{setups-give-nets}
 use Rattle.server.proofs.server.Server.answer.Needs as need
+
+pub returns-then-out-lt-TEXT-LIMIT : need.returns-then-out-lt-TEXT-LIMIT
+returns-then-out-lt-TEXT-LIMIT c = record { answer = search needs; buffer = search needs; model = search needs; bound = tt; setups = setups-give-nets }
 
 pub part-serve-end : need.part-serve-end
 part-serve-end c =
@@ -32,6 +36,7 @@ returns-in-Ok c =
       buffer = reply-left (line-reply m l) q same (c .args .out .now) (omega arith) (c .serve .last .out) (c .serve .ensures .buffer);
       model = reply-kept (line-reply m l) q same (c .args .out .now) (omega arith) m (model-of (c .serve .last .self)) (c .serve .ensures .model);
       bound = c .serve .ensures .bound;
+      setups = setups-give-nets;
     }
 
 pub returns-in-Err : need.returns-in-Err
@@ -46,4 +51,5 @@ returns-in-Err c =
       buffer = reply-left (line-reply m l) q same (c .args .out .now) (omega arith) (c .refuse .last .out) (c .refuse .ensures .buffer ∙ ap (λ r. over (refusal-line r) (c .args .out .now)) (c .refusal .ensures));
       model = reply-kept (line-reply m l) q same (c .args .out .now) (omega arith) m m refl;
       bound = c .refuse .ensures .bound;
+      setups = setups-give-nets;
     }
