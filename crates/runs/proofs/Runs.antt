@@ -17,6 +17,13 @@ module _ (t : Transitions) where
   run-end-unique (stays s) (stays s′) = refl
   run-end-unique {c = c} (goes {xs = xs} e r) (goes e′ r′) = run-end-unique r (subst (λ b. Run t b xs c) (cc) r′)
 
+  -- a run of no steps, and of one
+  pub run-none : {a b : Str} → Run t a [] b → a ≡ b
+  run-none (stays s) = refl
+
+  pub run-one : {a x b : Str} → Run t a (x ∷ []) b → t .next a x ≡ Ok b
+  run-one (goes e (stays s)) = e
+
   -- a run goes on by another from its end
   pub run-append : {a : Str} {xs : List Str} {b : Str} {ys : List Str} {c : Str} → Run t a xs b → Run t b ys c → Run t a (xs ++ ys) c
   run-append (stays s) q = q
@@ -43,10 +50,7 @@ module _ {t : Transitions} {i : Independence} (laws : Laws t i) where
 
   -- the last step taken off
   pub run-unsnoc : {a : Str} (xs : List Str) {x c : Str} → Run t a (xs ++ x ∷ []) c → (b : Str) × Run t a xs b × (t .next b x ≡ Ok c)
-  run-unsnoc xs r = let s = run-split xs r in (s .0, s .1, one (s .2))
-    where
-      one : {b x c : Str} → Run t b (x ∷ []) c → t .next b x ≡ Ok c
-      one (goes e (stays s)) = e
+  run-unsnoc xs r = let s = run-split xs r in (s .0, s .1, run-one t (s .2))
 
   -- a front of a run is a run
   pub run-take : {a : Str} (n : ℕ) {xs : List Str} {c : Str} → Run t a xs c → (b : Str) × Run t a (take n xs) b × Run t b (drop n xs) c

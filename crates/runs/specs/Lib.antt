@@ -1,1 +1,9 @@
 pub mod Run
+pub mod Exchange
+pub mod ExchangeLaws
+pub mod Join
+pub mod JoinLaws
+pub mod CarryLaws
+pub mod Compatible
+pub mod Least
+pub mod JoinAlgebra
