@@ -3,6 +3,7 @@ use mathlib.Core.Path.{_≡_}
 use mathlib.Core.List.{List, [], _∷_, _++_}
 use Prim.Native.Nat.{ℕ, _*_, _/_, _≤_}
 use lib.ListN.{length}
+pub use Rattle.nets.specs.Events.{event-limit}
 
 -- A frame names a call; a sheet is named by a byte.
 pub data FrameView : Type 0 where
@@ -45,12 +46,9 @@ Laid-out (release sheet) = Unit {0}
 Laid-out (reopen sheet) = Unit {0}
 Laid-out (print sheet) = Unit {0}
 
--- the most bytes of a frame, and the most events of a setup
+-- the most bytes of a frame
 abbrev pub frame-limit : ℕ
 frame-limit = 1024
-
-abbrev pub event-limit : ℕ
-event-limit = 48
 
 -- A setup has no pairs, no names and at most 48 events.
 abbrev pub Within-rules : FrameView → Type 0

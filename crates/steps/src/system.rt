@@ -9,11 +9,6 @@ ghost use Rattle.steps.specs.Told.{state-told, step-told, label-told, next-tol
 use crate::fault::MaskFault;
 use crate::label::Label;
 
-// The longest state and the longest step that a question takes or answers.
-pub const STATE_LIMIT: usize = 256;
-
-pub const STEP_LIMIT: usize = 64;
-
 // A question changes nothing. It answers the meaning, or the first refusal in the order: no step, masked, no state, not possible, too long.
 pub trait StepSystem {
     ghost transitions: { Self → Transitions };
