@@ -1,5 +1,7 @@
 // The bench of run sheets: four sheets, each a start and up to 32 steps, and the calls on them over any step system.
 // It knows systems only by the interface of `steps`.
+#![tactic(auto)]
+
 pub mod bench;
 pub mod fault;
 pub mod sheet;

@@ -1,5 +1,7 @@
 // Hexadecimal text: bytes written as pairs of digits, and lines of digits read back into bytes.
 // It rests on `byte_strings`.
+#![tactic(auto)]
+
 ghost use Rattle.std.specs.Prelude.{◌≡◌, length, take};
 ghost use Rattle.byte_strings.specs.Buffer.{over, count};
 ghost use Rattle.hexadecimal.specs.Hex.{write_told, written, sound, read_told, ReadsBack, ReadsWhatIsSpelled, CasesReadAlike};

@@ -1,5 +1,7 @@
 // Lists of calls over two small step systems: one in which no steps are independent, and one in which all different ones are.
 // It rests on `merges` and `toys`; what the answers should be is worked out by hand.
+#![tactic(auto)]
+
 #[cfg(test)]
 mod tests {
     use bench::fault::BenchFault;

@@ -1,6 +1,8 @@
 // Runs of a step system: a start, steps that follow each other, and the end that they lead to; what becomes of them
 // where independent neighbours are exchanged; and the least run that extends two.
 // It rests on `byte_strings` and `steps`.
+#![tactic(auto)]
+
 ghost use Rattle.runs.specs.Run.{OneEnd, RunsOn, FallsApart, LastStep, BetweenStates};
 ghost use Rattle.runs.specs.ExchangeLaws.{KeepRuns, Equivalence, BetweenOthers, SameLength, Preorder, Antisymmetric, Swaps};
 ghost use Rattle.runs.specs.JoinLaws.{GoneExchanged, KeptExchanged, CarriedRuns, JoinedRuns, JoinedExtends, JoinedLength};

@@ -1,4 +1,6 @@
 // The program: frames in hexadecimal on standard input, a line each; answers on standard output.
+#![tactic(auto)]
+
 ghost use Rattle.std.specs.Prelude.{◌≤◌, length};
 
 use server::session::Session;
