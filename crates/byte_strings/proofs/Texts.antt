@@ -1,5 +1,5 @@
 -- A string written over zeros. Assumes nothing.
-use Rattle.std.proofs.Common.{◌≡◌, ℕ, ◌+◌, ◌-◌, ◌<◌, ◌≤◌, Bool, true, false, cond, leb, List, [], ◌∷◌, ◌++◌, length, get_or, take, drop, set, replicate, Some, None, sym, refl, ap, ◌∙◌, append_assoc, arith, length-append, length-drop, length-take}
+use Rattle.std.proofs.Common.{◌≡◌, ℕ, ◌+◌, ◌-◌, ◌<◌, ◌≤◌, Bool, true, false, cond, leb, [], ◌∷◌, ◌++◌, length, get_or, take, drop, set, replicate, Some, None, sym, refl, ap, ◌∙◌, append_assoc, arith, length-append, length-drop, length-take}
 use lib.ListN.{length-replicate}
 use Rattle.std.proofs.lemmas.List.{drop_at, take_at, set_at, drop_more, take_more, take_all, length-take-le, drop-replicate, drop-drop, drop-set-lt, length-set, take_more_set, take-append-le}
 use Rattle.std.proofs.lemmas.Bool.{cond-true, le-leb}
@@ -21,13 +21,11 @@ held_more s bytes n i held lt fits =
 
 -- a string over zeros is held
 module _ (s bytes : Str) (n : ℕ) (fits : length s ≤ n) (whole : bytes ≡ over s (replicate n 0)) where
-  pub held_facts : (length s ≤ n) × ((length bytes ≡ n) × ((drop (length s) bytes ≡ replicate (n - length s) 0) × Unit {0}))
+  pub held_facts : (length s ≤ n) × (length bytes ≡ n) × (drop (length s) bytes ≡ replicate (n - length s) 0)
   held_facts = (
     fits,
-    (
-      rw whole (simp (length-append, length-drop, length-replicate) (omega (arith, fits))),
-      (rw whole (drop_at s (drop (length s) (replicate n 0)) (length s) refl ∙ drop-replicate (length s) n 0), tt),
-    ),
+    rw whole (simp (length-append, length-drop, length-replicate) (omega (arith, fits))),
+    rw whole (drop_at s (drop (length s) (replicate n 0)) (length s) refl ∙ drop-replicate (length s) n 0),
   )
 
   pub held_says : take (length s) bytes ≡ s
@@ -49,14 +47,12 @@ fitted_is s w n e = go (leb (length s) n) e
 
 -- one byte behind a held string
 module _ (bytes : Str) (n len b : ℕ) (long : length bytes ≡ n) (clear : drop len bytes ≡ replicate (n - len) 0) where
-  pub push_facts : len < n → (len + 1 ≤ n) × ((length (set bytes len b) ≡ n) × ((drop (len + 1) (set bytes len b) ≡ replicate (n - (len + 1)) 0) × Unit {0}))
+  pub push_facts : len < n → (len + 1 ≤ n) × (length (set bytes len b) ≡ n) × (drop (len + 1) (set bytes len b) ≡ replicate (n - (len + 1)) 0)
   push_facts room =
       let less : n - len - 1 ≡ n - (len + 1) = omega arith in (
         omega arith,
-        (
-          length-set bytes len b ∙ long,
-          (drop-set-lt (len + 1) bytes len b (omega arith) ∙ sym (drop-drop 1 len bytes) ∙ ap (drop 1) clear ∙ drop-replicate 1 (n - len) 0 ∙ ap (λ k. replicate k 0) less, tt),
-        ),
+        length-set bytes len b ∙ long,
+        drop-set-lt (len + 1) bytes len b (omega arith) ∙ sym (drop-drop 1 len bytes) ∙ ap (drop 1) clear ∙ drop-replicate 1 (n - len) 0 ∙ ap (λ k. replicate k 0) less,
       )
 
   pub push_says : len < n → take (len + 1) (set bytes len b) ≡ take n (take len bytes ++ b ∷ [])

@@ -1,5 +1,5 @@
 -- What a held string says, and what is answered where one is made or copied. Assumes nothing.
-use Rattle.std.specs.Prelude.{◌≡◌, ℕ, Bool, true, false, cond, List, length, take, Some, None, Ok, Err, Option, Result, nat_le}
+use Rattle.std.specs.Prelude.{ℕ, cond, length, take, Some, None, Ok, Err, Option, Result, nat_le}
 use Rattle.byte_strings.specs.Buffer.{Str}
 use Rattle.byte_strings.specs.declared.held.Held.{Held}
 

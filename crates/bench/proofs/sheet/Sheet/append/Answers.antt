@@ -10,8 +10,8 @@ use Rattle.bench.proofs.sheet.Sheet.append.Goals as goal
 page_with : Standing → Str → ℕ → List Str → Page
 page_with st s n rows = record { standing = st; len = n; start = s; rows = rows }
 
-pub invariant-of-self : goal.invariant-of-self
-invariant-of-self c = (omega (arith, ap length c.steps.ensures.value, length-map c.steps.result.now text_of, c.requires), tt)
+pub invariant_of-self : goal.invariant_of-self
+invariant_of-self c = (omega (arith, ap length c.steps.ensures.value, length-map c.steps.result.now text_of, c.requires), tt)
 
 pub returns : goal.returns
 unfolding page_with

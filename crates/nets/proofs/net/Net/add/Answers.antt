@@ -24,8 +24,8 @@ returns-in-Some c =
     let fault = room es c.args.event (omega (arith, length_events c.args.self.now)) ∙ sym c.fault.ensures ∙ c.in-Some.is in
     record { answer = sym (ap add_told fault); events = after es c.args.event fault; refused = λ _. refl }
 
-pub invariant-of-self : goal.invariant-of-self
-invariant-of-self c = (
+pub invariant_of-self : goal.invariant_of-self
+invariant_of-self c = (
   length-set c.args.self.now.events c.args.self.now.count c.args.event ∙ c.args.self.now.long,
   (
     omega arith,
