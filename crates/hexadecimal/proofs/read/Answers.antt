@@ -4,8 +4,8 @@ use Rattle.hexadecimal.specs.Hex.{sound}
 use Rattle.hexadecimal.proofs.Text.{sound_half, count_all, count_part, reads_what_is_spelled, cases_read_alike}
 use Rattle.hexadecimal.proofs.read.Goals as goal
 
-pub overflow-mul-n : goal.overflow-mul-n
-overflow-mul-n c = omega (arith, c.fill-n.ensures.answer, length-take (length c.args.out.now) (sound c.args.line.now), sound_half c.args.line.now)
+pub overflow_mul-n : goal.overflow_mul-n
+overflow_mul-n c = omega (arith, c.fill-n.ensures.answer, length-take (length c.args.out.now) (sound c.args.line.now), sound_half c.args.line.now)
 
 pub returns-then-line-n : goal.returns-then-line-n
 returns-then-line-n c =

@@ -6,7 +6,7 @@ use Rattle.bench.proofs.state.following.Goals as goal
 pub unreachable-requires : goal.unreachable-requires
 unreachable-requires g c =
     next_fits (g.S.StepSystem.transitions c.args.system.now) (text_of c.args.state.now) c.args.step.now c.next.new.out (replicate 256 0) c.in-Ok.len
-    (rw c.text.ensures.value at c.in-Ok.ensures.answer) (rw c.text.ensures.value at c.in-Ok.ensures.buffer) c.in-default.ensures
+    (rw c.text.ensures.value at c.in-Ok.ensures.answer) (rw c.text.ensures.value at c.in-Ok.ensures.buffer) c.in_default.ensures
 
 pub returns-in-Some : goal.returns-in-Some
 returns-in-Some g c =

@@ -2,5 +2,5 @@ use Rattle.std.proofs.Common.{sym, arith}
 use Rattle.frame.proofs.Parts.{layout_shorter}
 use Rattle.frame.proofs.setup.read_parts.Goals as goal
 
-pub overflow-sub-result : goal.overflow-sub-result
-overflow-sub-result c = omega (arith, layout_shorter c.args.fields.now _ (sym c.in-Some.ensures))
+pub overflow_sub-result : goal.overflow_sub-result
+overflow_sub-result c = omega (arith, layout_shorter c.args.fields.now _ (sym c.in-Some.ensures))

@@ -6,7 +6,7 @@ use Rattle.history.proofs.Turning.{held_within}
 use Rattle.history.proofs.turn.end_at.Goals as goal
 
 pub unreachable-requires : goal.unreachable-requires
-unreachable-requires c = held_within c.args.state.now 256 c.requires c.in-default.ensures
+unreachable-requires c = held_within c.args.state.now 256 c.requires c.in_default.ensures
 
 pub returns : goal.returns
 returns c = ap ends (fitted_is c.args.state.now (text_of c.in-Some.held) 256 c.in-Some.ensures)

@@ -12,19 +12,19 @@ returns-then-eq g c =
     let equal = (slice_eq-Decides Decides-eqb c.text.result.now c.text-2.result.now c.eq.result c.eq.ensures).0 c.if-eq.true in
     sym (meet_same (g.S.StepSystem.independence c.args.system.now) (text_of c.args.y.now) (text_of c.args.x.now) (sym c.text.ensures.value ∙ equal ∙ c.text-2.ensures.value))
 
-pub returns-in-default : goal.returns-in-default
-returns-in-default g c =
+pub returns-in_default : goal.returns-in_default
+returns-in_default g c =
     let i = g.S.StepSystem.independence c.args.system.now in
     let y = text_of c.args.y.now in
     let x = text_of c.args.x.now in
-    sym (meet_apart i y x (told_apart y x c.text.result.now c.text-2.result.now c.eq.result c.text.ensures.value c.text-2.ensures.value (slice_eq-Decides Decides-eqb c.text.result.now c.text-2.result.now c.eq.result c.eq.ensures) c.if-eq.false) ∙ ap (λ o. both_left o (i.left x y)) (sym c.in-default.ensures))
+    sym (meet_apart i y x (told_apart y x c.text.result.now c.text-2.result.now c.eq.result c.text.ensures.value c.text-2.ensures.value (slice_eq-Decides Decides-eqb c.text.result.now c.text-2.result.now c.eq.result c.eq.ensures) c.if-eq.false) ∙ ap (λ o. both_left o (i.left x y)) (sym c.in_default.ensures))
 
-pub returns-in-default-residual : goal.returns-in-default-residual
-returns-in-default-residual g c =
+pub returns-in_default-residual : goal.returns-in_default-residual
+returns-in_default-residual g c =
     let i = g.S.StepSystem.independence c.args.system.now in
     let y = text_of c.args.y.now in
     let x = text_of c.args.x.now in
-    sym (meet_apart i y x (told_apart y x c.text.result.now c.text-2.result.now c.eq.result c.text.ensures.value c.text-2.ensures.value (slice_eq-Decides Decides-eqb c.text.result.now c.text-2.result.now c.eq.result c.eq.ensures) c.if-eq.false) ∙ ap₂ both_left (sym c.in-Some.ensures) (sym c.in-default-residual.ensures))
+    sym (meet_apart i y x (told_apart y x c.text.result.now c.text-2.result.now c.eq.result c.text.ensures.value c.text-2.ensures.value (slice_eq-Decides Decides-eqb c.text.result.now c.text-2.result.now c.eq.result c.eq.ensures) c.if-eq.false) ∙ ap₂ both_left (sym c.in-Some.ensures) (sym c.in_default-residual.ensures))
 
 pub returns : goal.returns
 returns g c =

@@ -6,7 +6,7 @@ use Rattle.joins.proofs.residual.residual.Goals as goal
 pub unreachable-requires : goal.unreachable-requires
 unreachable-requires g c =
     left_not_refused (g.met.S.StepSystem.lawful c.args.system.now) (text_of c.args.x.now) (text_of c.args.y.now) c.requires.first c.requires.second c.text.result.now c.text-2.result.now c.text.ensures.value c.text-2.ensures.value
-    c.in-default.field-0 c.in-default.ensures.answer
+    c.in_default.field-0 c.in_default.ensures.answer
 
 pub returns : goal.returns
 returns g c =

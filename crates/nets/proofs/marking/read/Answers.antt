@@ -6,4 +6,4 @@ use Rattle.nets.proofs.marking.read.Goals as goal
 pub returns : goal.returns
 returns c =
     let eight : length c.args.state.now ≡ 8 = search rules in
-    ap Ok (c.from-be-bytes.ensures ∙ sym (spelled c.args.state.now eight)) ∙ sym (ap marking_told (read_eight c.args.state.now eight (λ i. omega (arith, c.type-inv.state i))))
+    ap Ok (c.from_be_bytes.ensures ∙ sym (spelled c.args.state.now eight)) ∙ sym (ap marking_told (read_eight c.args.state.now eight (λ i. omega (arith, c.type_inv.state i))))

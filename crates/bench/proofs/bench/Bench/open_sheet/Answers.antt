@@ -10,7 +10,7 @@ returns g c =
     let call = opened (g.S.StepSystem.transitions c.args.system.now) c.args.state.now in
     let d = c.index-self-s.result in
     record {
-      answer = c.start-at.ensures.answer ∙ sym (ap accepted (here sheets c.args.sheet d c.if-s-ge4.false long call));
-      pages = pages_then sheets c.args.sheet d c.if-s-ge4.false long call c.start-at.new.self c.start-at.ensures.page;
-      untouched = λ h. same_table sheets c.args.sheet d c.if-s-ge4.false long c.start-at.new.self (c.start-at.ensures.untouched h);
+      answer = c.start_at.ensures.answer ∙ sym (ap accepted (here sheets c.args.sheet d c.if-s-ge4.false long call));
+      pages = pages_then sheets c.args.sheet d c.if-s-ge4.false long call c.start_at.new.self c.start_at.ensures.page;
+      untouched = λ h. same_table sheets c.args.sheet d c.if-s-ge4.false long c.start_at.new.self (c.start_at.ensures.untouched h);
     }

@@ -17,45 +17,45 @@ use Rattle.bench.proofs.sheet.Sheet.add.Goals as goal
 longer : ℕ → Str → List Str → Page
 longer n s rows = record { standing = Open; len = n + 1; start = s; rows = rows }
 
-pub returns-in-default : goal.returns-in-default
-returns-in-default g c =
+pub returns-in_default : goal.returns-in_default
+returns-in_default g c =
     let p = page_of c.args.self.now in
-    let e : added (g.S.StepSystem.transitions c.args.system.now) c.args.step.now (length c.args.out.now) p ≡ Err (WrongStanding 1) = not_open p _ c.in-default.not-Open in
+    let e : added (g.S.StepSystem.transitions c.args.system.now) c.args.step.now (length c.args.out.now) p ≡ Err (WrongStanding 1) = not_open p _ c.in_default.not-Open in
     record { answer = sym (ap (λ o. count (answered o)) e); buffer = sym (ap (λ o. kept (answered o) c.args.out.now) e); page = sym (ap (λ o. after o p) e); untouched = λ _. refl }
 
-pub returns-in-err-end : goal.returns-in-err-end
-returns-in-err-end g c =
+pub returns-in_err-end : goal.returns-in_err-end
+returns-in_err-end g c =
     let p = page_of c.args.self.now in
     let q = err_from_is_err_and c.from-residual.result c.from-residual.ensures.1 in
-    let e : added (g.S.StepSystem.transitions c.args.system.now) c.args.step.now (length c.args.out.now) p ≡ Err c.in-err-end.field-0.0 = open_stopped p _ _ _ c.in-Open.is c.in-err-end.ensures in
+    let e : added (g.S.StepSystem.transitions c.args.system.now) c.args.step.now (length c.args.out.now) p ≡ Err c.in_err-end.field-0.0 = open_stopped p _ _ _ c.in-Open.is c.in_err-end.ensures in
     record { answer = q.1 ∙ ap Err q.2 ∙ sym (ap (λ o. count (answered o)) e); buffer = sym (ap (λ o. kept (answered o) c.args.out.now) e); page = sym (ap (λ o. after o p) e); untouched = λ _. refl }
 
 pub returns-then-head-ge32 : goal.returns-then-head-ge32
 returns-then-head-ge32 g c =
     let p = page_of c.args.self.now in
-    let e = added_full (g.S.StepSystem.transitions c.args.system.now) p c.args.step.now (length c.args.out.now) c.in-Open.is (text_of c.in-ok-end.end) c.in-ok-end.ensures c.if-head-ge32.true in
+    let e = added_full (g.S.StepSystem.transitions c.args.system.now) p c.args.step.now (length c.args.out.now) c.in-Open.is (text_of c.in_ok-end.end) c.in_ok-end.ensures c.if-head-ge32.true in
     record { answer = sym (ap (λ o. count (answered o)) e); buffer = sym (ap (λ o. kept (answered o) c.args.out.now) e); page = sym (ap (λ o. after o p) e); untouched = λ _. refl }
 
-pub returns-in-err-n : goal.returns-in-err-n
-returns-in-err-n g c =
+pub returns-in_err-n : goal.returns-in_err-n
+returns-in_err-n g c =
     let p = page_of c.args.self.now in
-    let f = c.in-err-n.field-0.0 in
-    let q = err_from_is_err_and c.from-residual-in-err-n.result c.from-residual-in-err-n.ensures.1 in
-    let r = not_counted _ f (rw c.text.ensures.value at c.in-err-n.ensures.answer) in
-    let b = rw c.text.ensures.value at c.in-err-n.ensures.buffer in
-    let e = added_refused (g.S.StepSystem.transitions c.args.system.now) p c.args.step.now (length c.args.out.now) c.in-Open.is (text_of c.in-ok-end.end) c.in-ok-end.ensures f c.if-head-ge32.false r in
+    let f = c.in_err-n.field-0.0 in
+    let q = err_from_is_err_and c.from-residual-in_err-n.result c.from-residual-in_err-n.ensures.1 in
+    let r = not_counted _ f (rw c.text.ensures.value at c.in_err-n.ensures.answer) in
+    let b = rw c.text.ensures.value at c.in_err-n.ensures.buffer in
+    let e = added_refused (g.S.StepSystem.transitions c.args.system.now) p c.args.step.now (length c.args.out.now) c.in-Open.is (text_of c.in_ok-end.end) c.in_ok-end.ensures f c.if-head-ge32.false r in
     record { answer = q.1 ∙ ap Err q.2 ∙ sym (ap (λ o. count (answered o)) e); buffer = b ∙ ap (λ o. kept o c.args.out.now) r ∙ sym (ap (λ o. kept (answered o) c.args.out.now) e); page = sym (ap (λ o. after o p) e); untouched = λ _. refl }
 
 pub unreachable-requires : goal.unreachable-requires
 unreachable-requires g c =
-    let w = counted _ c.in-ok-n.n (rw c.text.ensures.value at c.in-ok-n.ensures.answer) in
-    step_held (g.met.S.StepSystem.lawful c.args.system.now) (text_of c.in-ok-end.end) c.args.step.now w.0 (length c.args.out.now) w.1 c.if-not-put.ensures.answer
+    let w = counted _ c.in_ok-n.n (rw c.text.ensures.value at c.in_ok-n.ensures.answer) in
+    step_held (g.met.S.StepSystem.lawful c.args.system.now) (text_of c.in_ok-end.end) c.args.step.now w.0 (length c.args.out.now) w.1 c.if-not-put.ensures.answer
 
 pub returns : goal.returns
 unfolding longer
 returns g c =
     let p = page_of c.args.self.now in
-    let w = counted _ c.in-ok-n.n (rw c.text.ensures.value at c.in-ok-n.ensures.answer) in
-    let b = rw c.text.ensures.value at c.in-ok-n.ensures.buffer in
-    let e = added_last (g.S.StepSystem.transitions c.args.system.now) p c.args.step.now (length c.args.out.now) c.in-Open.is (text_of c.in-ok-end.end) c.in-ok-end.ensures w.0 c.if-head-ge32.false w.1 in
+    let w = counted _ c.in_ok-n.n (rw c.text.ensures.value at c.in_ok-n.ensures.answer) in
+    let b = rw c.text.ensures.value at c.in_ok-n.ensures.buffer in
+    let e = added_last (g.S.StepSystem.transitions c.args.system.now) p c.args.step.now (length c.args.out.now) c.in-Open.is (text_of c.in_ok-end.end) c.in_ok-end.ensures w.0 c.if-head-ge32.false w.1 in
     record { answer = ap Ok w.2 ∙ sym (ap (λ o. count (answered o)) e); buffer = b ∙ ap (λ o. kept o c.args.out.now) w.1 ∙ sym (ap (λ o. kept (answered o) c.args.out.now) e); page = ap (λ r. longer p.len p.start r) (row_put c.args.self.now.rows p.len c.put.new.self c.args.step.now _ c.put.ensures.text c.if-not-put.ensures.answer) ∙ sym (ap (λ o. after o p) e); untouched = λ h. absurd (false≢true h) }

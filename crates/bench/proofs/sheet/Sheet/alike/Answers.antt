@@ -9,14 +9,14 @@ use Rattle.std.proofs.lemmas.Bool.Decides.{Decides-eqb}
 
 pub returns-then-eq : goal.returns-then-eq
 returns-then-eq g c =
-    let end = text_of c.in-ok-end.end in
+    let end = text_of c.in_ok-end.end in
     let same = decides_alike c.text.result.now c.text-2.result.now (text_of c.args.self.now.start) (text_of c.args.other.now.start) c.eq.result c.text.ensures.value c.text-2.ensures.value (slice_eq-Decides Decides-eqb c.text.result.now c.text-2.result.now c.eq.result c.eq.ensures) in
-    sym (starts_alike (g.S.StepSystem.transitions c.args.system.now) (page_of c.args.self.now) (page_of c.args.other.now) end (text_of c.in-ok-replay.field-0) c.eq.result c.in-ok-end.ensures c.in-ok-replay.ensures same
+    sym (starts_alike (g.S.StepSystem.transitions c.args.system.now) (page_of c.args.self.now) (page_of c.args.other.now) end (text_of c.in_ok-replay.field-0) c.eq.result c.in_ok-end.ensures c.in_ok-replay.ensures same
     ∙ ap (λ s. cond s (Ok end) (Err StartsDiffer)) c.if-eq.true)
 
 pub returns-else-eq : goal.returns-else-eq
 returns-else-eq g c =
-    let end = text_of c.in-ok-end.end in
+    let end = text_of c.in_ok-end.end in
     let same = decides_alike c.text.result.now c.text-2.result.now (text_of c.args.self.now.start) (text_of c.args.other.now.start) c.eq.result c.text.ensures.value c.text-2.ensures.value (slice_eq-Decides Decides-eqb c.text.result.now c.text-2.result.now c.eq.result c.eq.ensures) in
-    sym (starts_alike (g.S.StepSystem.transitions c.args.system.now) (page_of c.args.self.now) (page_of c.args.other.now) end (text_of c.in-ok-replay.field-0) c.eq.result c.in-ok-end.ensures c.in-ok-replay.ensures same
+    sym (starts_alike (g.S.StepSystem.transitions c.args.system.now) (page_of c.args.self.now) (page_of c.args.other.now) end (text_of c.in_ok-replay.field-0) c.eq.result c.in_ok-end.ensures c.in_ok-replay.ensures same
     ∙ ap (λ s. cond s (Ok end) (Err StartsDiffer)) c.if-eq.false)

@@ -18,4 +18,4 @@ unfolding page_with
 returns c =
     let p = page_of c.args.self.now in
     let size : length c.steps.result.now ≡ length (steps_in c.args.added.now) = sym (length-map c.steps.result.now text_of) ∙ ap length c.steps.ensures.value in
-    ap₂ (page_with p.standing p.start) (ap (λ n. p.len + n) size) c.write-rows.ensures
+    ap₂ (page_with p.standing p.start) (ap (λ n. p.len + n) size) c.write_rows.ensures

@@ -12,16 +12,16 @@ use Rattle.bench.proofs.Calling.{not_open}
 use Rattle.bench.proofs.Joining.{alike_ok, joined_none, joined_blank, joined_unlike, joined_refused, joined_done}
 use Rattle.bench.proofs.sheet.Sheet.join.Goals as goal
 
-pub returns-in-default : goal.returns-in-default
-returns-in-default g c =
+pub returns-in_default : goal.returns-in_default
+returns-in_default g c =
     let p = page_of c.args.self.now in
-    let e : joined (g.S.StepSystem.transitions c.args.system.now) (g.S.StepSystem.independence c.args.system.now) (named_page c.args.other) p ≡ Err (WrongStanding 1) = not_open p _ c.in-default.not-Open in
+    let e : joined (g.S.StepSystem.transitions c.args.system.now) (g.S.StepSystem.independence c.args.system.now) (named_page c.args.other) p ≡ Err (WrongStanding 1) = not_open p _ c.in_default.not-Open in
     record { answer = sym (ap answered e); page = sym (ap (λ o. after o p) e); untouched = λ _. refl }
 
-pub returns-in-default-other : goal.returns-in-default-other
-returns-in-default-other g c =
+pub returns-in_default-other : goal.returns-in_default-other
+returns-in_default-other g c =
     let p = page_of c.args.self.now in
-    let e = ap (λ o. joined (g.S.StepSystem.transitions c.args.system.now) (g.S.StepSystem.independence c.args.system.now) (named_page o) p) c.in-default-other.is ∙ joined_none (g.S.StepSystem.transitions c.args.system.now) (g.S.StepSystem.independence c.args.system.now) p c.in-Open.is in
+    let e = ap (λ o. joined (g.S.StepSystem.transitions c.args.system.now) (g.S.StepSystem.independence c.args.system.now) (named_page o) p) c.in_default-other.is ∙ joined_none (g.S.StepSystem.transitions c.args.system.now) (g.S.StepSystem.independence c.args.system.now) p c.in-Open.is in
     record { answer = sym (ap answered e); page = sym (ap (λ o. after o p) e); untouched = λ _. refl }
 
 pub returns-in-Blank : goal.returns-in-Blank
@@ -32,39 +32,39 @@ returns-in-Blank g c =
     let e = named ∙ joined_blank (g.S.StepSystem.transitions c.args.system.now) (g.S.StepSystem.independence c.args.system.now) p c.in-Open.is e' c.in-Blank.is in
     record { answer = sym (ap answered e); page = sym (ap (λ o. after o p) e); untouched = λ _. refl }
 
-pub returns-in-err-end : goal.returns-in-err-end
-returns-in-err-end g c =
+pub returns-in_err-end : goal.returns-in_err-end
+returns-in_err-end g c =
     let p = page_of c.args.self.now in
     let q = err_from_is_err_and c.from-residual.result c.from-residual.ensures.1 in
     let e' = page_of c.in-Some.other in
     let named = ap (λ o. joined (g.S.StepSystem.transitions c.args.system.now) (g.S.StepSystem.independence c.args.system.now) (named_page o) p) c.in-Some.is in
-    let e = named ∙ joined_unlike (g.S.StepSystem.transitions c.args.system.now) (g.S.StepSystem.independence c.args.system.now) p c.in-Open.is e' c.in-default-standing.not-Blank c.in-err-end.field-0.0 c.in-err-end.ensures in
+    let e = named ∙ joined_unlike (g.S.StepSystem.transitions c.args.system.now) (g.S.StepSystem.independence c.args.system.now) p c.in-Open.is e' c.in_default-standing.not-Blank c.in_err-end.field-0.0 c.in_err-end.ensures in
     record { answer = ap pair_told (q.1 ∙ ap Err q.2) ∙ sym (ap answered e); page = sym (ap (λ o. after o p) e); untouched = λ _. refl }
 
-pub returns-in-err-added : goal.returns-in-err-added
-returns-in-err-added g c =
+pub returns-in_err-added : goal.returns-in_err-added
+returns-in_err-added g c =
     let p = page_of c.args.self.now in
-    let q = err_from_is_err_and c.from-residual-in-err-added.result c.from-residual-in-err-added.ensures.1 in
+    let q = err_from_is_err_and c.from-residual-in_err-added.result c.from-residual-in_err-added.ensures.1 in
     let e' = page_of c.in-Some.other in
     let named = ap (λ o. joined (g.S.StepSystem.transitions c.args.system.now) (g.S.StepSystem.independence c.args.system.now) (named_page o) p) c.in-Some.is in
-    let e = named ∙ joined_refused (g.S.StepSystem.transitions c.args.system.now) (g.S.StepSystem.independence c.args.system.now) p c.in-Open.is e' c.in-default-standing.not-Blank (text_of c.in-ok-end.end) c.in-ok-end.ensures c.in-err-added.field-0.0 c.in-err-added.ensures.value in
+    let e = named ∙ joined_refused (g.S.StepSystem.transitions c.args.system.now) (g.S.StepSystem.independence c.args.system.now) p c.in-Open.is e' c.in_default-standing.not-Blank (text_of c.in_ok-end.end) c.in_ok-end.ensures c.in_err-added.field-0.0 c.in_err-added.ensures.value in
     record { answer = ap pair_told (q.1 ∙ ap Err q.2) ∙ sym (ap answered e); page = sym (ap (λ o. after o p) e); untouched = λ _. refl }
 
 pub survivors-requires : goal.survivors-requires
 survivors-requires g c =
-    let both = alike_ok (g.S.StepSystem.transitions c.args.system.now) (page_of c.args.self.now) (page_of c.in-Some.other) (text_of c.in-ok-end.end) (sym c.in-ok-end.ensures) in
+    let both = alike_ok (g.S.StepSystem.transitions c.args.system.now) (page_of c.args.self.now) (page_of c.in-Some.other) (text_of c.in_ok-end.end) (sym c.in_ok-end.ensures) in
     record { first = both.0; second = both.1 }
 
-pub overflow-sub-shared : goal.overflow-sub-shared
-overflow-sub-shared g c = omega (arith, ap length c.steps-2.ensures.value, length-map c.steps-2.result.now text_of, c.in-ok-added.ensures.few)
+pub overflow_sub-shared : goal.overflow_sub-shared
+overflow_sub-shared g c = omega (arith, ap length c.steps-2.ensures.value, length-map c.steps-2.result.now text_of, c.in_ok-added.ensures.few)
 
 pub returns : goal.returns
 returns g c =
     let p = page_of c.args.self.now in
     let e' = page_of c.in-Some.other in
     let named = ap (λ o. joined (g.S.StepSystem.transitions c.args.system.now) (g.S.StepSystem.independence c.args.system.now) (named_page o) p) c.in-Some.is in
-    let added = steps_in c.in-ok-added.added in
-    let e = named ∙ joined_done (g.S.StepSystem.transitions c.args.system.now) (g.S.StepSystem.independence c.args.system.now) p c.in-Open.is e' c.in-default-standing.not-Blank (text_of c.in-ok-end.end) c.in-ok-end.ensures added c.in-ok-added.ensures.value in
+    let added = steps_in c.in_ok-added.added in
+    let e = named ∙ joined_done (g.S.StepSystem.transitions c.args.system.now) (g.S.StepSystem.independence c.args.system.now) p c.in-Open.is e' c.in_default-standing.not-Blank (text_of c.in_ok-end.end) c.in_ok-end.ensures added c.in_ok-added.ensures.value in
     let size : length c.steps.result.now ≡ length added = sym (length-map c.steps.result.now text_of) ∙ ap length c.steps.ensures.value in
     let size_2 : length c.steps-2.result.now ≡ length added = sym (length-map c.steps-2.result.now text_of) ∙ ap length c.steps-2.ensures.value in
     record {

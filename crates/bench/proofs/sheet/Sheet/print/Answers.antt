@@ -10,35 +10,35 @@ use Rattle.bench.proofs.Calling.{not_released, released_stopped}
 use Rattle.bench.proofs.Printing.{text_is_long, printed_not, printed_text}
 use Rattle.bench.proofs.sheet.Sheet.print.Goals as goal
 
-pub returns-in-default : goal.returns-in-default
-returns-in-default g c =
+pub returns-in_default : goal.returns-in_default
+returns-in_default g c =
     let p = page_of c.args.self.now in
-    let e : printed (g.S.StepSystem.transitions c.args.system.now) (length c.args.out.now) p ≡ Err (WrongStanding 1) = not_released p _ c.in-default.not-Released in
+    let e : printed (g.S.StepSystem.transitions c.args.system.now) (length c.args.out.now) p ≡ Err (WrongStanding 1) = not_released p _ c.in_default.not-Released in
     record { answer = sym (ap (λ o. count (answered o)) e); buffer = sym (ap (λ o. kept (answered o) c.args.out.now) e); bound = tt }
 
-pub returns-in-err-end : goal.returns-in-err-end
-returns-in-err-end g c =
+pub returns-in_err-end : goal.returns-in_err-end
+returns-in_err-end g c =
     let p = page_of c.args.self.now in
     let q = err_from_is_err_and c.from-residual.result c.from-residual.ensures.1 in
-    let e : printed (g.S.StepSystem.transitions c.args.system.now) (length c.args.out.now) p ≡ Err c.in-err-end.field-0.0 = released_stopped p _ _ _ c.in-Released.is c.in-err-end.ensures in
+    let e : printed (g.S.StepSystem.transitions c.args.system.now) (length c.args.out.now) p ≡ Err c.in_err-end.field-0.0 = released_stopped p _ _ _ c.in-Released.is c.in_err-end.ensures in
     record { answer = q.1 ∙ ap Err q.2 ∙ sym (ap (λ o. count (answered o)) e); buffer = sym (ap (λ o. kept (answered o) c.args.out.now) e); bound = IfOk-from_err c.from-residual.result _ c.from-residual.ensures.0 }
 
-pub write-text-requires : goal.write-text-requires
-write-text-requires g c = record { replays = sym (ap is_ok c.in-ok-end.ensures); room = omega (arith, c.text-len-len.ensures.value) }
+pub write_text-requires : goal.write_text-requires
+write_text-requires g c = record { replays = sym (ap is_ok c.in_ok-end.ensures); room = omega (arith, c.text_len-len.ensures.value) }
 
 pub returns-then-len-out : goal.returns-then-len-out
 returns-then-len-out g c =
     let p = page_of c.args.self.now in
     let t = g.S.StepSystem.transitions c.args.system.now in
-    let l = c.text-len-len.ensures.value in
-    let e = printed_not t p (text_of c.in-ok-end.end) (length c.args.out.now) c.in-Released.is c.in-ok-end.ensures (omega (arith, l)) (omega (arith, l)) in
+    let l = c.text_len-len.ensures.value in
+    let e = printed_not t p (text_of c.in_ok-end.end) (length c.args.out.now) c.in-Released.is c.in_ok-end.ensures (omega (arith, l)) (omega (arith, l)) in
     record { answer = ap (λ n. Err (TextTooLong n)) l ∙ sym (ap (λ o. count (answered o)) e); buffer = sym (ap (λ o. kept (answered o) c.args.out.now) e); bound = tt }
 
 pub returns : goal.returns
 returns g c =
     let p = page_of c.args.self.now in
     let t = g.S.StepSystem.transitions c.args.system.now in
-    let a = text_of c.in-ok-end.end in
-    let l = c.text-len-len.ensures.value in
-    let e = printed_text t p a (length c.args.out.now) c.in-Released.is c.in-ok-end.ensures (omega (arith, l)) in
-    record { answer = ap Ok (l ∙ sym (text_is_long t p a)) ∙ sym (ap (λ o. count (answered o)) e); buffer = c.write-text.ensures ∙ sym (ap (λ o. kept (answered o) c.args.out.now) e); bound = c.text-len-len.ensures.bound }
+    let a = text_of c.in_ok-end.end in
+    let l = c.text_len-len.ensures.value in
+    let e = printed_text t p a (length c.args.out.now) c.in-Released.is c.in_ok-end.ensures (omega (arith, l)) in
+    record { answer = ap Ok (l ∙ sym (text_is_long t p a)) ∙ sym (ap (λ o. count (answered o)) e); buffer = c.write_text.ensures ∙ sym (ap (λ o. kept (answered o) c.args.out.now) e); bound = c.text_len-len.ensures.bound }

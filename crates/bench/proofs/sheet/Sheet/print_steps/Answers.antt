@@ -14,7 +14,7 @@ unreachable-requires g c =
     let t = g.S.StepSystem.transitions c.args.system.now in
     let lt : c.loop-i.i < length (steps_of p) = simp length-take (omega (arith, c.row-step.ensures.inside)) in
     let at = c.row-step.ensures.value ∙ sym (get_or-take p.len p.rows c.loop-i.i [] c.loop-i-test.true) in
-    ok_not_err _ c.in-default.field-0 (sym (rw at at c.in-default.ensures ∙ all_shown t p.start (steps_of p) c.requires.replays c.loop-i.i lt))
+    ok_not_err _ c.in_default.field-0 (sym (rw at at c.in_default.ensures ∙ all_shown t p.start (steps_of p) c.requires.replays c.loop-i.i lt))
 
 pub loop-i-preserved : goal.loop-i-preserved
 loop-i-preserved g c =

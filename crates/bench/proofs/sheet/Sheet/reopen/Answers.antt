@@ -8,21 +8,21 @@ use Rattle.bench.specs.Calls.{reopened, accepted, after}
 use Rattle.bench.proofs.Calling.{not_released, released_stopped, released_ends}
 use Rattle.bench.proofs.sheet.Sheet.reopen.Goals as goal
 
-pub returns-in-default : goal.returns-in-default
-returns-in-default g c =
+pub returns-in_default : goal.returns-in_default
+returns-in_default g c =
     let p = page_of c.args.self.now in
-    let e : reopened (g.S.StepSystem.transitions c.args.system.now) p ≡ Err (WrongStanding 1) = not_released p _ c.in-default.not-Released in
+    let e : reopened (g.S.StepSystem.transitions c.args.system.now) p ≡ Err (WrongStanding 1) = not_released p _ c.in_default.not-Released in
     record { answer = sym (ap accepted e); page = sym (ap (λ o. after o p) e); untouched = λ _. refl }
 
-pub returns-in-err-replay : goal.returns-in-err-replay
-returns-in-err-replay g c =
+pub returns-in_err-replay : goal.returns-in_err-replay
+returns-in_err-replay g c =
     let p = page_of c.args.self.now in
     let q = err_from_is_err_and c.from-residual.result c.from-residual.ensures.1 in
-    let e : reopened (g.S.StepSystem.transitions c.args.system.now) p ≡ Err c.in-err-replay.field-0.0 = released_stopped p _ _ _ c.in-Released.is c.in-err-replay.ensures in
+    let e : reopened (g.S.StepSystem.transitions c.args.system.now) p ≡ Err c.in_err-replay.field-0.0 = released_stopped p _ _ _ c.in-Released.is c.in_err-replay.ensures in
     record { answer = q.1 ∙ ap Err q.2 ∙ sym (ap accepted e); page = sym (ap (λ o. after o p) e); untouched = λ _. refl }
 
 pub returns : goal.returns
 returns g c =
     let p = page_of c.args.self.now in
-    let e = released_ends p _ (λ _. _) (text_of c.in-ok-replay.field-0) c.in-Released.is c.in-ok-replay.ensures in
+    let e = released_ends p _ (λ _. _) (text_of c.in_ok-replay.field-0) c.in-Released.is c.in_ok-replay.ensures in
     record { answer = sym (ap accepted e); page = sym (ap (λ o. after o p) e); untouched = λ h. absurd (false≢true h) }

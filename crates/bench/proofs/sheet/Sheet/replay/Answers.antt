@@ -13,12 +13,12 @@ loop-i-preserved g c =
 pub returns-in-Err-following : goal.returns-in-Err-following
 returns-in-Err-following g c =
     let rows = (page_of c.args.self.now).rows in
-    starts (g.S.StepSystem.transitions c.args.system.now) (text_of c.args.self.now.start) (take c.args.count rows) _ (sym (rw c.text.ensures.value at c.in-default.ensures))
+    starts (g.S.StepSystem.transitions c.args.system.now) (text_of c.args.self.now.start) (take c.args.count rows) _ (sym (rw c.text.ensures.value at c.in_default.ensures))
     (stops (g.S.StepSystem.transitions c.args.system.now) (text_of c.loop-i.state) (take c.args.count rows) c.loop-i.i c.row.result.now c.in-Err-following.fault _
     (simp length-take (omega (arith, c.row.ensures.inside))) (c.row.ensures.value ∙ sym (get_or-take c.args.count rows c.loop-i.i [] (omega arith))) c.in-Err-following.ensures c.loop-i.invariant)
 
 pub returns : goal.returns
 returns g c =
     let rows = (page_of c.args.self.now).rows in
-    starts (g.S.StepSystem.transitions c.args.system.now) (text_of c.args.self.now.start) (take c.args.count rows) _ (sym (rw c.text.ensures.value at c.in-default.ensures))
+    starts (g.S.StepSystem.transitions c.args.system.now) (text_of c.args.self.now.start) (take c.args.count rows) _ (sym (rw c.text.ensures.value at c.in_default.ensures))
     (arrives (g.S.StepSystem.transitions c.args.system.now) (text_of c.loop-i.state) (take c.args.count rows) c.loop-i.i _ (simp length-take (omega arith)) c.loop-i.invariant)

@@ -20,19 +20,19 @@ returns-in-Released g c =
     let e : opened (g.S.StepSystem.transitions c.args.system.now) c.args.state.now p ≡ Err (WrongStanding 1) = was_released p _ c.in-Released.is in
     record { answer = sym (ap accepted e); page = sym (ap (λ o. after o p) e); untouched = λ _. refl }
 
-pub returns-in-err-state : goal.returns-in-err-state
-returns-in-err-state g c =
+pub returns-in_err-state : goal.returns-in_err-state
+returns-in_err-state g c =
     let p = page_of c.args.self.now in
     let q = err_from_is_err_and c.from-residual.result c.from-residual.ensures.1 in
-    let e = opened_refused (g.S.StepSystem.transitions c.args.system.now) p c.args.state.now c.in-default.not-Released c.in-err-state.field-0.0 c.in-err-state.ensures in
+    let e = opened_refused (g.S.StepSystem.transitions c.args.system.now) p c.args.state.now c.in_default.not-Released c.in_err-state.field-0.0 c.in_err-state.ensures in
     record { answer = q.1 ∙ ap Err q.2 ∙ sym (ap accepted e); page = sym (ap (λ o. after o p) e); untouched = λ _. refl }
 
 pub unreachable-requires : goal.unreachable-requires
-unreachable-requires g c = state_held (g.met.S.StepSystem.lawful c.args.system.now) c.args.state.now c.in-ok-state.ensures c.in-default-of.ensures
+unreachable-requires g c = state_held (g.met.S.StepSystem.lawful c.args.system.now) c.args.state.now c.in_ok-state.ensures c.in_default-of.ensures
 
 pub returns : goal.returns
 unfolding start_page
 returns g c =
     let p = page_of c.args.self.now in
-    let e = opened_at (g.S.StepSystem.transitions c.args.system.now) p c.args.state.now c.in-default.not-Released c.in-ok-state.ensures in
+    let e = opened_at (g.S.StepSystem.transitions c.args.system.now) p c.args.state.now c.in_default.not-Released c.in_ok-state.ensures in
     record { answer = sym (ap accepted e); page = ap (λ w. start_page w p.rows) (fitted_is c.args.state.now (text_of c.in-Some.start) 256 c.in-Some.ensures) ∙ sym (ap (λ o. after o p) e); untouched = λ h. absurd (false≢true h) }

@@ -46,16 +46,16 @@ returns-then-len-gt32 g c =
       room = tt;
     }
 
-pub returns-in-err-lead : goal.returns-in-err-lead
-returns-in-err-lead g c =
+pub returns-in_err-lead : goal.returns-in_err-lead
+returns-in_err-lead g c =
     let i = g.S.StepSystem.independence c.args.system.now in
     let p = page_of c.args.self.now in
     let added = steps_in c.in-Ok.added in
     let size : length c.steps-3.result.now ≡ length added = sym (length-map c.steps-3.result.now text_of) ∙ ap length c.steps-3.ensures.value in
     let fits : p.len + length added ≤ 32 = omega arith in
     let q = err_from_is_err_and c.from-residual.result c.from-residual.ensures.1 in
-    let f = c.in-err-lead.field-0.0 in
-    let e = stops_on_the_way (g.S.StepSystem.transitions c.args.system.now) i (text_of c.args.end.now) p (page_of c.args.other.now) added (c.in-Ok.ensures.value ∙ both_steps i _ _ _ _ c.steps.ensures c.steps-2.ensures) fits f c.in-err-lead.ensures in
+    let f = c.in_err-lead.field-0.0 in
+    let e = stops_on_the_way (g.S.StepSystem.transitions c.args.system.now) i (text_of c.args.end.now) p (page_of c.args.other.now) added (c.in-Ok.ensures.value ∙ both_steps i _ _ _ _ c.steps.ensures c.steps-2.ensures) fits f c.in_err-lead.ensures in
     record { value = ap list_told (q.1 ∙ ap Err q.2) ∙ sym e; few = subst (λ r. IfOk r (λ l. length (steps_in l) ≤ c.args.other.now.head.len)) (sym q.1) tt; room = subst (λ r. IfOk r (λ l. p.len + length (steps_in l) ≤ 32)) (sym q.1) tt }
 
 pub returns : goal.returns
@@ -68,7 +68,7 @@ returns g c =
     let fits : p.len + length added ≤ 32 = omega arith in
     let second : length (steps_in c.steps-2.result) ≤ e.len = omega (arith, ap length c.steps-2.ensures, length-take e.len e.rows) in
     record {
-      value = sym (survives (g.S.StepSystem.transitions c.args.system.now) i (text_of c.args.end.now) p e added (c.in-Ok.ensures.value ∙ both_steps i _ _ _ _ c.steps.ensures c.steps-2.ensures) fits (text_of c.in-ok-lead.field-0) c.in-ok-lead.ensures);
+      value = sym (survives (g.S.StepSystem.transitions c.args.system.now) i (text_of c.args.end.now) p e added (c.in-Ok.ensures.value ∙ both_steps i _ _ _ _ c.steps.ensures c.steps-2.ensures) fits (text_of c.in_ok-lead.field-0) c.in_ok-lead.ensures);
       few = omega (arith, c.in-Ok.ensures.bound);
       room = fits;
     }

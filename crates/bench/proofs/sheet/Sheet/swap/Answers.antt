@@ -18,66 +18,66 @@ use Rattle.bench.proofs.sheet.Sheet.swap.Goals as goal
 page_with : Standing → ℕ → Str → List Str → Page
 page_with st n s rows = record { standing = st; len = n; start = s; rows = rows }
 
-pub returns-in-default : goal.returns-in-default
-returns-in-default g c =
+pub returns-in_default : goal.returns-in_default
+returns-in_default g c =
     let p = page_of c.args.self.now in
-    let e : swapped (g.S.StepSystem.transitions c.args.system.now) (g.S.StepSystem.independence c.args.system.now) c.args.place p ≡ Err (WrongStanding 1) = not_open p _ c.in-default.not-Open in
+    let e : swapped (g.S.StepSystem.transitions c.args.system.now) (g.S.StepSystem.independence c.args.system.now) c.args.place p ≡ Err (WrongStanding 1) = not_open p _ c.in_default.not-Open in
     record { answer = sym (ap accepted e); page = sym (ap (λ o. after o p) e); untouched = λ _. refl }
 
-pub returns-in-err-replay : goal.returns-in-err-replay
-returns-in-err-replay g c =
+pub returns-in_err-replay : goal.returns-in_err-replay
+returns-in_err-replay g c =
     let p = page_of c.args.self.now in
     let q = err_from_is_err_and c.from-residual.result c.from-residual.ensures.1 in
-    let e : swapped (g.S.StepSystem.transitions c.args.system.now) (g.S.StepSystem.independence c.args.system.now) c.args.place p ≡ Err c.in-err-replay.field-0.0 = open_stopped p _ _ _ c.in-Open.is c.in-err-replay.ensures in
+    let e : swapped (g.S.StepSystem.transitions c.args.system.now) (g.S.StepSystem.independence c.args.system.now) c.args.place p ≡ Err c.in_err-replay.field-0.0 = open_stopped p _ _ _ c.in-Open.is c.in_err-replay.ensures in
     record { answer = q.1 ∙ ap Err q.2 ∙ sym (ap accepted e); page = sym (ap (λ o. after o p) e); untouched = λ _. refl }
 
 pub returns-then-n-eq0 : goal.returns-then-n-eq0
 returns-then-n-eq0 g c =
     let p = page_of c.args.self.now in
-    let e = swapped_nowhere (g.S.StepSystem.transitions c.args.system.now) (g.S.StepSystem.independence c.args.system.now) p c.args.place c.in-Open.is (text_of c.in-ok-replay.field-0) c.in-ok-replay.ensures c.then-n-eq0.either in
+    let e = swapped_nowhere (g.S.StepSystem.transitions c.args.system.now) (g.S.StepSystem.independence c.args.system.now) p c.args.place c.in-Open.is (text_of c.in_ok-replay.field-0) c.in_ok-replay.ensures c.then-n-eq0.either in
     record { answer = sym (ap accepted e); page = sym (ap (λ o. after o p) e); untouched = λ _. refl }
 
 pub neighbours-requires : goal.neighbours-requires
-neighbours-requires g c = record { above = omega arith; below = omega arith; replays = sym (ap is_ok c.in-ok-replay.ensures) }
+neighbours-requires g c = record { above = omega arith; below = omega arith; replays = sym (ap is_ok c.in_ok-replay.ensures) }
 
-pub returns-in-err-exchanged : goal.returns-in-err-exchanged
-returns-in-err-exchanged g c =
+pub returns-in_err-exchanged : goal.returns-in_err-exchanged
+returns-in_err-exchanged g c =
     let p = page_of c.args.self.now in
-    let q = err_from_is_err_and c.from-residual-in-err-exchanged.result c.from-residual-in-err-exchanged.ensures.1 in
+    let q = err_from_is_err_and c.from-residual-in_err-exchanged.result c.from-residual-in_err-exchanged.ensures.1 in
     let above : 0 < c.args.place = omega arith in
     let below : c.args.place < p.len = omega arith in
-    let e = swapped_refused (g.S.StepSystem.transitions c.args.system.now) (g.S.StepSystem.independence c.args.system.now) p c.args.place c.in-Open.is (text_of c.in-ok-replay.field-0) c.in-ok-replay.ensures above below c.in-err-exchanged.field-0.0 c.in-err-exchanged.ensures in
+    let e = swapped_refused (g.S.StepSystem.transitions c.args.system.now) (g.S.StepSystem.independence c.args.system.now) p c.args.place c.in-Open.is (text_of c.in_ok-replay.field-0) c.in_ok-replay.ensures above below c.in_err-exchanged.field-0.0 c.in_err-exchanged.ensures in
     record { answer = q.1 ∙ ap Err q.2 ∙ sym (ap accepted e); page = sym (ap (λ o. after o p) e); untouched = λ _. refl }
 
-pub returns-in-default-exchanged : goal.returns-in-default-exchanged
-returns-in-default-exchanged g c =
+pub returns-in_default-exchanged : goal.returns-in_default-exchanged
+returns-in_default-exchanged g c =
     let p = page_of c.args.self.now in
     let above : 0 < c.args.place = omega arith in
     let below : c.args.place < p.len = omega arith in
-    let e = swapped_dependent (g.S.StepSystem.transitions c.args.system.now) (g.S.StepSystem.independence c.args.system.now) p c.args.place c.in-Open.is (text_of c.in-ok-replay.field-0) c.in-ok-replay.ensures above below (sym (ap (λ o. neighbours_told (Ok o)) c.in-default-exchanged.is) ∙ c.in-ok-exchanged.ensures) in
+    let e = swapped_dependent (g.S.StepSystem.transitions c.args.system.now) (g.S.StepSystem.independence c.args.system.now) p c.args.place c.in-Open.is (text_of c.in_ok-replay.field-0) c.in_ok-replay.ensures above below (sym (ap (λ o. neighbours_told (Ok o)) c.in_default-exchanged.is) ∙ c.in_ok-exchanged.ensures) in
     record { answer = sym (ap accepted e); page = sym (ap (λ o. after o p) e); untouched = λ _. refl }
 
-pub returns-in-err-before : goal.returns-in-err-before
-returns-in-err-before g c =
+pub returns-in_err-before : goal.returns-in_err-before
+returns-in_err-before g c =
     let p = page_of c.args.self.now in
-    let q = err_from_is_err_and c.from-residual-in-err-before.result c.from-residual-in-err-before.ensures.1 in
+    let q = err_from_is_err_and c.from-residual-in_err-before.result c.from-residual-in_err-before.ensures.1 in
     let above : 0 < c.args.place = omega arith in
     let below : c.args.place < p.len = omega arith in
     let x : Pair = record { first = text_of c.in-Some.neighbours.first; second = text_of c.in-Some.neighbours.second } in
-    let told = sym (ap (λ o. neighbours_told (Ok o)) c.in-Some.is) ∙ c.in-ok-exchanged.ensures in
-    let e = swapped_stopped (g.S.StepSystem.transitions c.args.system.now) (g.S.StepSystem.independence c.args.system.now) p c.args.place c.in-Open.is (text_of c.in-ok-replay.field-0) c.in-ok-replay.ensures above below x told c.in-err-before.field-0.0 c.in-err-before.ensures in
+    let told = sym (ap (λ o. neighbours_told (Ok o)) c.in-Some.is) ∙ c.in_ok-exchanged.ensures in
+    let e = swapped_stopped (g.S.StepSystem.transitions c.args.system.now) (g.S.StepSystem.independence c.args.system.now) p c.args.place c.in-Open.is (text_of c.in_ok-replay.field-0) c.in_ok-replay.ensures above below x told c.in_err-before.field-0.0 c.in_err-before.ensures in
     record { answer = q.1 ∙ ap Err q.2 ∙ sym (ap accepted e); page = sym (ap (λ o. after o p) e); untouched = λ _. refl }
 
-pub returns-in-err-following : goal.returns-in-err-following
-returns-in-err-following g c =
+pub returns-in_err-following : goal.returns-in_err-following
+returns-in_err-following g c =
     let p = page_of c.args.self.now in
-    let q = err_from_is_err_and c.from-residual-in-err-following.result c.from-residual-in-err-following.ensures.1 in
+    let q = err_from_is_err_and c.from-residual-in_err-following.result c.from-residual-in_err-following.ensures.1 in
     let above : 0 < c.args.place = omega arith in
     let below : c.args.place < p.len = omega arith in
     let x : Pair = record { first = text_of c.in-Some.neighbours.first; second = text_of c.in-Some.neighbours.second } in
-    let told = sym (ap (λ o. neighbours_told (Ok o)) c.in-Some.is) ∙ c.in-ok-exchanged.ensures in
-    let next = ap (λ w. next_told (g.S.StepSystem.transitions c.args.system.now) (text_of c.in-ok-before.before) w 256) c.text.ensures.value in
-    let e = swapped_too_long (g.S.StepSystem.transitions c.args.system.now) (g.S.StepSystem.independence c.args.system.now) p c.args.place c.in-Open.is (text_of c.in-ok-replay.field-0) c.in-ok-replay.ensures above below x told (text_of c.in-ok-before.before) c.in-err-following.field-0.0 c.in-ok-before.ensures (c.in-err-following.ensures ∙ next) in
+    let told = sym (ap (λ o. neighbours_told (Ok o)) c.in-Some.is) ∙ c.in_ok-exchanged.ensures in
+    let next = ap (λ w. next_told (g.S.StepSystem.transitions c.args.system.now) (text_of c.in_ok-before.before) w 256) c.text.ensures.value in
+    let e = swapped_too_long (g.S.StepSystem.transitions c.args.system.now) (g.S.StepSystem.independence c.args.system.now) p c.args.place c.in-Open.is (text_of c.in_ok-replay.field-0) c.in_ok-replay.ensures above below x told (text_of c.in_ok-before.before) c.in_err-following.field-0.0 c.in_ok-before.ensures (c.in_err-following.ensures ∙ next) in
     record { answer = q.1 ∙ ap Err q.2 ∙ sym (ap accepted e); page = sym (ap (λ o. after o p) e); untouched = λ _. refl }
 
 pub returns : goal.returns
@@ -87,7 +87,7 @@ returns g c =
     let above : 0 < c.args.place = omega arith in
     let below : c.args.place < p.len = omega arith in
     let x : Pair = record { first = text_of c.in-Some.neighbours.first; second = text_of c.in-Some.neighbours.second } in
-    let told = sym (ap (λ o. neighbours_told (Ok o)) c.in-Some.is) ∙ c.in-ok-exchanged.ensures in
-    let next = ap (λ w. next_told (g.S.StepSystem.transitions c.args.system.now) (text_of c.in-ok-before.before) w 256) c.text.ensures.value in
-    let e = swapped_done (g.S.StepSystem.transitions c.args.system.now) (g.S.StepSystem.independence c.args.system.now) p c.args.place c.in-Open.is (text_of c.in-ok-replay.field-0) c.in-ok-replay.ensures above below x told (text_of c.in-ok-before.before) (text_of c.in-ok-following.field-0) c.in-ok-before.ensures (c.in-ok-following.ensures ∙ next) in
+    let told = sym (ap (λ o. neighbours_told (Ok o)) c.in-Some.is) ∙ c.in_ok-exchanged.ensures in
+    let next = ap (λ w. next_told (g.S.StepSystem.transitions c.args.system.now) (text_of c.in_ok-before.before) w 256) c.text.ensures.value in
+    let e = swapped_done (g.S.StepSystem.transitions c.args.system.now) (g.S.StepSystem.independence c.args.system.now) p c.args.place c.in-Open.is (text_of c.in_ok-replay.field-0) c.in_ok-replay.ensures above below x told (text_of c.in_ok-before.before) (text_of c.in_ok-following.field-0) c.in_ok-before.ensures (c.in_ok-following.ensures ∙ next) in
     record { answer = sym (ap accepted e); page = ap₂ (λ st r. page_with st p.len p.start r) c.in-Open.is (two_rows c.args.self.now.rows (c.args.place - 1) c.args.place c.in-Some.neighbours.first c.in-Some.neighbours.second) ∙ sym (ap (λ o. after o p) e); untouched = λ h. absurd (false≢true h) }

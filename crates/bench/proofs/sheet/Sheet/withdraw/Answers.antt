@@ -10,47 +10,47 @@ use Rattle.bench.specs.Calls.{withdrawn, answered, after}
 use Rattle.bench.proofs.Calling.{not_open, open_stopped, withdrawn_none, withdrawn_stopped, withdrawn_refused, withdrawn_last}
 use Rattle.bench.proofs.sheet.Sheet.withdraw.Goals as goal
 
-pub returns-in-default : goal.returns-in-default
-returns-in-default g c =
+pub returns-in_default : goal.returns-in_default
+returns-in_default g c =
     let p = page_of c.args.self.now in
-    let e : withdrawn (g.S.StepSystem.transitions c.args.system.now) (length c.args.out.now) p ≡ Err (WrongStanding 1) = not_open p _ c.in-default.not-Open in
+    let e : withdrawn (g.S.StepSystem.transitions c.args.system.now) (length c.args.out.now) p ≡ Err (WrongStanding 1) = not_open p _ c.in_default.not-Open in
     record { answer = sym (ap (λ o. count (answered o)) e); buffer = sym (ap (λ o. kept (answered o) c.args.out.now) e); page = sym (ap (λ o. after o p) e); untouched = λ _. refl }
 
-pub returns-in-err-replay : goal.returns-in-err-replay
-returns-in-err-replay g c =
+pub returns-in_err-replay : goal.returns-in_err-replay
+returns-in_err-replay g c =
     let p = page_of c.args.self.now in
     let q = err_from_is_err_and c.from-residual.result c.from-residual.ensures.1 in
-    let e : withdrawn (g.S.StepSystem.transitions c.args.system.now) (length c.args.out.now) p ≡ Err c.in-err-replay.field-0.0 = open_stopped p _ _ _ c.in-Open.is c.in-err-replay.ensures in
+    let e : withdrawn (g.S.StepSystem.transitions c.args.system.now) (length c.args.out.now) p ≡ Err c.in_err-replay.field-0.0 = open_stopped p _ _ _ c.in-Open.is c.in_err-replay.ensures in
     record { answer = q.1 ∙ ap Err q.2 ∙ sym (ap (λ o. count (answered o)) e); buffer = sym (ap (λ o. kept (answered o) c.args.out.now) e); page = sym (ap (λ o. after o p) e); untouched = λ _. refl }
 
 pub returns-then-head-eq0 : goal.returns-then-head-eq0
 returns-then-head-eq0 g c =
     let p = page_of c.args.self.now in
-    let e = withdrawn_none (g.S.StepSystem.transitions c.args.system.now) p (length c.args.out.now) c.in-Open.is (text_of c.in-ok-replay.field-0) c.in-ok-replay.ensures c.if-head-eq0.true in
+    let e = withdrawn_none (g.S.StepSystem.transitions c.args.system.now) p (length c.args.out.now) c.in-Open.is (text_of c.in_ok-replay.field-0) c.in_ok-replay.ensures c.if-head-eq0.true in
     record { answer = sym (ap (λ o. count (answered o)) e); buffer = sym (ap (λ o. kept (answered o) c.args.out.now) e); page = sym (ap (λ o. after o p) e); untouched = λ _. refl }
 
-pub returns-in-err-end : goal.returns-in-err-end
-returns-in-err-end g c =
+pub returns-in_err-end : goal.returns-in_err-end
+returns-in_err-end g c =
     let p = page_of c.args.self.now in
     let some : 0 < p.len = omega arith in
-    let q = err_from_is_err_and c.from-residual-in-err-end.result c.from-residual-in-err-end.ensures.1 in
-    let e = withdrawn_stopped (g.S.StepSystem.transitions c.args.system.now) p (length c.args.out.now) c.in-Open.is (text_of c.in-ok-replay.field-0) c.in-ok-replay.ensures c.in-err-end.field-0.0 some c.in-err-end.ensures in
+    let q = err_from_is_err_and c.from-residual-in_err-end.result c.from-residual-in_err-end.ensures.1 in
+    let e = withdrawn_stopped (g.S.StepSystem.transitions c.args.system.now) p (length c.args.out.now) c.in-Open.is (text_of c.in_ok-replay.field-0) c.in_ok-replay.ensures c.in_err-end.field-0.0 some c.in_err-end.ensures in
     record { answer = q.1 ∙ ap Err q.2 ∙ sym (ap (λ o. count (answered o)) e); buffer = sym (ap (λ o. kept (answered o) c.args.out.now) e); page = sym (ap (λ o. after o p) e); untouched = λ _. refl }
 
-pub returns-in-err-n : goal.returns-in-err-n
-returns-in-err-n g c =
+pub returns-in_err-n : goal.returns-in_err-n
+returns-in_err-n g c =
     let p = page_of c.args.self.now in
     let some : 0 < p.len = omega arith in
-    let f = c.in-err-n.field-0.0 in
-    let q = err_from_is_err_and c.from-residual-in-err-n.result c.from-residual-in-err-n.ensures.1 in
-    let r = not_counted _ f c.in-err-n.ensures.answer in
-    let e = withdrawn_refused (g.S.StepSystem.transitions c.args.system.now) p (length c.args.out.now) c.in-Open.is (text_of c.in-ok-replay.field-0) c.in-ok-replay.ensures (text_of c.in-ok-end.end) f some c.in-ok-end.ensures r in
-    record { answer = q.1 ∙ ap Err q.2 ∙ sym (ap (λ o. count (answered o)) e); buffer = c.in-err-n.ensures.buffer ∙ ap (λ o. kept o c.args.out.now) r ∙ sym (ap (λ o. kept (answered o) c.args.out.now) e); page = sym (ap (λ o. after o p) e); untouched = λ _. refl }
+    let f = c.in_err-n.field-0.0 in
+    let q = err_from_is_err_and c.from-residual-in_err-n.result c.from-residual-in_err-n.ensures.1 in
+    let r = not_counted _ f c.in_err-n.ensures.answer in
+    let e = withdrawn_refused (g.S.StepSystem.transitions c.args.system.now) p (length c.args.out.now) c.in-Open.is (text_of c.in_ok-replay.field-0) c.in_ok-replay.ensures (text_of c.in_ok-end.end) f some c.in_ok-end.ensures r in
+    record { answer = q.1 ∙ ap Err q.2 ∙ sym (ap (λ o. count (answered o)) e); buffer = c.in_err-n.ensures.buffer ∙ ap (λ o. kept o c.args.out.now) r ∙ sym (ap (λ o. kept (answered o) c.args.out.now) e); page = sym (ap (λ o. after o p) e); untouched = λ _. refl }
 
 pub returns : goal.returns
 returns g c =
     let p = page_of c.args.self.now in
     let some : 0 < p.len = omega arith in
-    let w = counted _ c.in-ok-n.n c.in-ok-n.ensures.answer in
-    let e = withdrawn_last (g.S.StepSystem.transitions c.args.system.now) p (length c.args.out.now) c.in-Open.is (text_of c.in-ok-replay.field-0) c.in-ok-replay.ensures (text_of c.in-ok-end.end) w.0 some c.in-ok-end.ensures w.1 in
-    record { answer = ap Ok w.2 ∙ sym (ap (λ o. count (answered o)) e); buffer = c.in-ok-n.ensures.buffer ∙ ap (λ o. kept o c.args.out.now) w.1 ∙ sym (ap (λ o. kept (answered o) c.args.out.now) e); page = sym (ap (λ o. after o p) e); untouched = λ h. absurd (false≢true h) }
+    let w = counted _ c.in_ok-n.n c.in_ok-n.ensures.answer in
+    let e = withdrawn_last (g.S.StepSystem.transitions c.args.system.now) p (length c.args.out.now) c.in-Open.is (text_of c.in_ok-replay.field-0) c.in_ok-replay.ensures (text_of c.in_ok-end.end) w.0 some c.in_ok-end.ensures w.1 in
+    record { answer = ap Ok w.2 ∙ sym (ap (λ o. count (answered o)) e); buffer = c.in_ok-n.ensures.buffer ∙ ap (λ o. kept o c.args.out.now) w.1 ∙ sym (ap (λ o. kept (answered o) c.args.out.now) e); page = sym (ap (λ o. after o p) e); untouched = λ h. absurd (false≢true h) }

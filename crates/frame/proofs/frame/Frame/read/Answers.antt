@@ -4,16 +4,16 @@ use Rattle.frame.proofs.Format.{reads_frames, places_malformed, places_bad_setup
 use Rattle.frame.proofs.Calls.{within_told, call_read}
 use Rattle.frame.proofs.frame.Frame.read.Goals as goal
 
-pub returns-then-frame-gt-FRAME-LIMIT : goal.returns-then-frame-gt-FRAME-LIMIT
-returns-then-frame-gt-FRAME-LIMIT c = record { answer = search rules; frames = reads_frames; malformed = places_malformed; setups = places_bad_setups }
+pub returns-then-frame-gt-FRAME_LIMIT : goal.returns-then-frame-gt-FRAME_LIMIT
+returns-then-frame-gt-FRAME_LIMIT c = record { answer = search rules; frames = reads_frames; malformed = places_malformed; setups = places_bad_setups }
 
-pub returns-in-default : goal.returns-in-default
-returns-in-default c = record { answer = search rules; frames = reads_frames; malformed = places_malformed; setups = places_bad_setups }
+pub returns-in_default : goal.returns-in_default
+returns-in_default c = record { answer = search rules; frames = reads_frames; malformed = places_malformed; setups = places_bad_setups }
 
 pub returns : goal.returns
 returns c =
     record {
-      answer = c.«read-call».ensures ∙ (call_read c.args.frame.now _ (omega (arith, ltb-false)) (take_rest c.args.frame.now 1) ∙ sym (within_told c.args.frame.now (omega arith)));
+      answer = c.«read_call».ensures ∙ (call_read c.args.frame.now _ (omega (arith, ltb-false)) (take_rest c.args.frame.now 1) ∙ sym (within_told c.args.frame.now (omega arith)));
       frames = reads_frames;
       malformed = places_malformed;
       setups = places_bad_setups;

@@ -4,4 +4,4 @@ use Rattle.frame.proofs.Parts.{kind_told}
 use Rattle.frame.proofs.setup.Setup.read.Goals as goal
 
 pub returns : goal.returns
-returns c = c.«read-parts».ensures ∙ sym (kind_told c.args.fields.now _ (omega (arith, ltb-false)) (omega arith) (take_rest c.args.fields.now 1))
+returns c = c.«read_parts».ensures ∙ sym (kind_told c.args.fields.now _ (omega (arith, ltb-false)) (omega arith) (take_rest c.args.fields.now 1))

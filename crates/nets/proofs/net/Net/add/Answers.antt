@@ -12,8 +12,8 @@ use Rattle.nets.proofs.net.Net.add.Goals as goal
 after : (es : List Event) (e : Event) {o : Option EventFault} → add_fault es e ≡ o → events_after o es e ≡ events_after (add_fault es e) es e
 after es e h = sym (ap (λ (o : Option EventFault). events_after o es e) h)
 
-pub returns-then-self-ge-EVENT-LIMIT : goal.returns-then-self-ge-EVENT-LIMIT
-returns-then-self-ge-EVENT-LIMIT c =
+pub returns-then-self-ge-EVENT_LIMIT : goal.returns-then-self-ge-EVENT_LIMIT
+returns-then-self-ge-EVENT_LIMIT c =
     let es = events_of c.args.self.now in
     let fault = full es c.args.event (omega (arith, length_events c.args.self.now)) in
     record { answer = sym (ap add_told fault); events = after es c.args.event fault; refused = λ _. refl }
@@ -30,7 +30,7 @@ invariant_of-self c = (
   (
     omega arith,
     (
-      stored_sound c.args.self.now c.args.event c.if-self-ge-EVENT-LIMIT.false (omega arith) (omega arith) (sym c.fault.ensures ∙ c.in-default.is),
+      stored_sound c.args.self.now c.args.event c.if-self-ge-EVENT_LIMIT.false (omega arith) (omega arith) (sym c.fault.ensures ∙ c.in_default.is),
       tt,
     ),
   ),
@@ -39,9 +39,9 @@ invariant_of-self c = (
 pub returns : goal.returns
 returns c =
     let es = events_of c.args.self.now in
-    let fault = room es c.args.event (omega (arith, length_events c.args.self.now)) ∙ sym c.fault.ensures ∙ c.in-default.is in
+    let fault = room es c.args.event (omega (arith, length_events c.args.self.now)) ∙ sym c.fault.ensures ∙ c.in_default.is in
     record {
       answer = sym (ap add_told fault);
-      events = stored c.args.self.now c.args.event c.if-self-ge-EVENT-LIMIT.false ∙ after es c.args.event fault;
+      events = stored c.args.self.now c.args.event c.if-self-ge-EVENT_LIMIT.false ∙ after es c.args.event fault;
       refused = λ h. absurd (true≢false h);
     }

@@ -9,16 +9,16 @@ use Rattle.server.proofs.Reading.{read_ok, read_err, reply_long, reply_left, rep
 use Rattle.server.proofs.Setups.{setups_give_nets}
 use Rattle.server.proofs.server.Server.answer.Goals as goal
 
-pub returns-then-out-lt-TEXT-LIMIT : goal.returns-then-out-lt-TEXT-LIMIT
-returns-then-out-lt-TEXT-LIMIT c = record { answer = search rules; buffer = search rules; model = search rules; bound = tt; setups = setups_give_nets }
+pub returns-then-out-lt-TEXT_LIMIT : goal.returns-then-out-lt-TEXT_LIMIT
+returns-then-out-lt-TEXT_LIMIT c = record { answer = search rules; buffer = search rules; model = search rules; bound = tt; setups = setups_give_nets }
 
-pub slice-bounds-serve-end : goal.slice-bounds-serve-end
-slice-bounds-serve-end c =
+pub slice_bounds-serve-end : goal.slice_bounds-serve-end
+slice_bounds-serve-end c =
     let short : c.in-Ok.n ≤ 1024 = (read_ok c.args.line.now c.in-Ok.n c.read.new.out _ c.in-Ok.ensures.answer c.in-Ok.ensures.buffer).1 in
     search rules
 
-pub overflow-cast-place : goal.overflow-cast-place
-overflow-cast-place c = omega (arith, (read_err c.args.line.now c.in-Err.place c.in-Err.ensures.answer).1)
+pub overflow_cast-place : goal.overflow_cast-place
+overflow_cast-place c = omega (arith, (read_err c.args.line.now c.in-Err.place c.in-Err.ensures.answer).1)
 
 pub returns-in-Ok : goal.returns-in-Ok
 returns-in-Ok c =

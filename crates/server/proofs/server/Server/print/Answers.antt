@@ -17,8 +17,8 @@ returns-in-Err c =
     let m = model_of c.args.self.now in
     let e = print_err (system_of m) m.pages c.args.sheet c.args.out.now c.requires c.in-Err.fault c.print.new.out c.in-Err.ensures.answer c.in-Err.ensures.buffer in
     record {
-      answer = c.refuse-call.ensures.answer ∙ sym (ap (λ w. length (print_text (answered w))) e.0);
-      buffer = c.refuse-call.ensures.buffer ∙ ap (over (fault_line c.in-Err.fault)) e.1 ∙ sym (ap (λ w. over (print_text (answered w)) c.args.out.now) e.0);
+      answer = c.refuse_call.ensures.answer ∙ sym (ap (λ w. length (print_text (answered w))) e.0);
+      buffer = c.refuse_call.ensures.buffer ∙ ap (over (fault_line c.in-Err.fault)) e.1 ∙ sym (ap (λ w. over (print_text (answered w)) c.args.out.now) e.0);
       model = refl;
-      bound = c.refuse-call.ensures.bound;
+      bound = c.refuse_call.ensures.bound;
     }

@@ -14,10 +14,10 @@ returns-in-Err c =
     let o = on_sheet m.pages c.args.sheet (withdrawn (system_of m) 256) in
     let e = not_answered o c.in-Err.fault c.in-Err.ensures.answer in
     record {
-      answer = c.refuse-call.ensures.answer ∙ sym (ap (λ w. length (call_text (answered w))) e);
-      buffer = c.refuse-call.ensures.buffer ∙ sym (ap (λ w. over (call_text (answered w)) c.args.out.now) e);
+      answer = c.refuse_call.ensures.answer ∙ sym (ap (λ w. length (call_text (answered w))) e);
+      buffer = c.refuse_call.ensures.buffer ∙ sym (ap (λ w. over (call_text (answered w)) c.args.out.now) e);
       model = ap (λ ps. record { events = m.events; pages = ps }) c.withdraw.ensures.pages;
-      bound = c.refuse-call.ensures.bound;
+      bound = c.refuse_call.ensures.bound;
     }
 
 pub returns-in-Ok : goal.returns-in-Ok

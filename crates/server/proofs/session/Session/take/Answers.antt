@@ -17,12 +17,12 @@ returns-then-byte-ne10 c =
       bound = omega arith;
     }
 
-pub returns-in-default : goal.returns-in-default
-returns-in-default c =
+pub returns-in_default : goal.returns-in_default
+returns-in_default c =
     let m = model_of c.args.self.now.server in
     let out = c.args.out.now in
     let b = c.args.byte in
-    let said = c.in-default.ensures in
+    let said = c.in_default.ensures in
     record {
       answer = λ l e. said.answer ∙ ap (λ w. reply_length (line_reply m w) (length out)) (c.text.ensures.value ∙ e) ∙ ends_length m out l b c.if-byte-ne10.false;
       buffer = λ l e. said.buffer ∙ ap (λ w. reply_buffer (line_reply m w) out) (c.text.ensures.value ∙ e) ∙ ends_buffer m out l b c.if-byte-ne10.false;
