@@ -17,7 +17,7 @@ pub(crate) fn following<S: StepSystem>(
     state: &Held<256>,
     step: &[u8],
 ) -> Result<Held<256>, MaskFault>
-    ensures { said result ≡ next_told (transitions system.now) (text_of state.now) step.now 256 }
+    ensures { said result ≡ next_told (S.transitions system.now) (text_of state.now) step.now 256 }
 {
     let mut bytes = [0u8; 256];
     match system.next(state.text(), step, &mut bytes) {
@@ -37,7 +37,7 @@ pub(crate) fn lead<S: StepSystem>(
     state: &Held<256>,
     list: &StepList,
 ) -> Result<Held<256>, MaskFault>
-    ensures { said result ≡ led (transitions system.now) (text_of state.now) (steps_in list.now) }
+    ensures { said result ≡ led (S.transitions system.now) (text_of state.now) (steps_in list.now) }
 {
     let mut end = *state;
     let steps = list.steps();

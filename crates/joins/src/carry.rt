@@ -21,9 +21,9 @@ pub(crate) enum Carried {
 
 // What comes of a step that is carried through a list.
 pub(crate) fn carry<S: StepSystem>(system: &S, step: &Held<64>, list: &StepList) -> Carried
-    requires first { ShortStep (transitions system.now) (text_of step.now) }
-    requires others { ShortSteps (transitions system.now) (steps_in list.now) }
-    ensures { carried_told result ≡ theory.carry (independence system.now) (text_of step.now) (steps_in list.now) }
+    requires first { ShortStep (S.transitions system.now) (text_of step.now) }
+    requires others { ShortSteps (S.transitions system.now) (steps_in list.now) }
+    ensures { carried_told result ≡ theory.carry (S.independence system.now) (text_of step.now) (steps_in list.now) }
 {
     let mut remains = StepList::empty();
     let mut carried = Some(*step);

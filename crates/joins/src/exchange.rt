@@ -22,9 +22,9 @@ pub fn exchange<S: StepSystem>(
     x: &Held<64>,
     z: &Held<64>,
 ) -> Result<Option<Neighbours>, MaskFault>
-    requires first { ShortStep (transitions system.now) (text_of x.now) }
-    requires second { ShortStep (transitions system.now) (text_of z.now) }
-    ensures { neighbours_told result ≡ exchanged_told (independence system.now) (text_of x.now) (text_of z.now) }
+    requires first { ShortStep (S.transitions system.now) (text_of x.now) }
+    requires second { ShortStep (S.transitions system.now) (text_of z.now) }
+    ensures { neighbours_told result ≡ exchanged_told (S.independence system.now) (text_of x.now) (text_of z.now) }
 {
     let mut bytes = [0u8; 64];
     let answer = match system.back(x.text(), z.text(), &mut bytes) {

@@ -11,9 +11,9 @@ use steps::system::StepSystem;
 
 // What is left of the steps of e behind those of s; else the number, from 1, of the first step of e that clashes.
 pub fn join<S: StepSystem>(system: &S, s: &StepList, e: &StepList) -> Result<StepList, usize>
-    requires first { ShortSteps (transitions system.now) (steps_in s.now) }
-    requires second { ShortSteps (transitions system.now) (steps_in e.now) }
-    ensures value { survivors_told result ≡ added_of (theory.join (independence system.now) (steps_in s.now) (steps_in e.now)) }
+    requires first { ShortSteps (S.transitions system.now) (steps_in s.now) }
+    requires second { ShortSteps (S.transitions system.now) (steps_in e.now) }
+    ensures value { survivors_told result ≡ added_of (theory.join (S.independence system.now) (steps_in s.now) (steps_in e.now)) }
     ensures bound { MatchResult result (λ added. length (steps_in added) ≤ length (steps_in e.now)) (λ n. n ≤ 32) }
 {
     let mut added = StepList::empty();

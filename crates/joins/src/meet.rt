@@ -19,9 +19,9 @@ pub(crate) enum Met {
 
 // What a step y does that meets x.
 pub(crate) fn meet<S: StepSystem>(system: &S, y: &Held<64>, x: &Held<64>) -> Met
-    requires first { ShortStep (transitions system.now) (text_of y.now) }
-    requires second { ShortStep (transitions system.now) (text_of x.now) }
-    ensures { met_told result ≡ theory.meet (independence system.now) (text_of y.now) (text_of x.now) }
+    requires first { ShortStep (S.transitions system.now) (text_of y.now) }
+    requires second { ShortStep (S.transitions system.now) (text_of x.now) }
+    ensures { met_told result ≡ theory.meet (S.independence system.now) (text_of y.now) (text_of x.now) }
 {
     if y.text() == x.text() {
         return Met::Same;

@@ -30,8 +30,8 @@ impl Bench {
         sheet: u8,
         state: &[u8],
     ) -> Result<(), BenchFault>
-        ensures answer { result ≡ accepted (on_sheet (pages_of self.old) sheet (opened (transitions system.now) state.now)) }
-        ensures pages { pages_of self.new ≡ pages_after (on_sheet (pages_of self.old) sheet (opened (transitions system.now) state.now)) (pages_of self.old) sheet }
+        ensures answer { result ≡ accepted (on_sheet (pages_of self.old) sheet (opened (S.transitions system.now) state.now)) }
+        ensures pages { pages_of self.new ≡ pages_after (on_sheet (pages_of self.old) sheet (opened (S.transitions system.now) state.now)) (pages_of self.old) sheet }
         ensures untouched { is_err result ≡ true → self.new ≡ self.old }
     {
         let s = sheet as usize;
@@ -49,9 +49,9 @@ impl Bench {
         step: &[u8],
         out: &mut [u8],
     ) -> Result<usize, BenchFault>
-        ensures answer { result ≡ count (answered (on_sheet (pages_of self.old) sheet (added (transitions system.now) step.now (length out.old)))) }
-        ensures buffer { out.new ≡ kept (answered (on_sheet (pages_of self.old) sheet (added (transitions system.now) step.now (length out.old)))) out.old }
-        ensures pages { pages_of self.new ≡ pages_after (on_sheet (pages_of self.old) sheet (added (transitions system.now) step.now (length out.old))) (pages_of self.old) sheet }
+        ensures answer { result ≡ count (answered (on_sheet (pages_of self.old) sheet (added (S.transitions system.now) step.now (length out.old)))) }
+        ensures buffer { out.new ≡ kept (answered (on_sheet (pages_of self.old) sheet (added (S.transitions system.now) step.now (length out.old)))) out.old }
+        ensures pages { pages_of self.new ≡ pages_after (on_sheet (pages_of self.old) sheet (added (S.transitions system.now) step.now (length out.old))) (pages_of self.old) sheet }
         ensures untouched { is_err result ≡ true → self.new ≡ self.old }
     {
         let s = sheet as usize;
@@ -68,9 +68,9 @@ impl Bench {
         sheet: u8,
         out: &mut [u8],
     ) -> Result<usize, BenchFault>
-        ensures answer { result ≡ count (answered (on_sheet (pages_of self.old) sheet (withdrawn (transitions system.now) (length out.old)))) }
-        ensures buffer { out.new ≡ kept (answered (on_sheet (pages_of self.old) sheet (withdrawn (transitions system.now) (length out.old)))) out.old }
-        ensures pages { pages_of self.new ≡ pages_after (on_sheet (pages_of self.old) sheet (withdrawn (transitions system.now) (length out.old))) (pages_of self.old) sheet }
+        ensures answer { result ≡ count (answered (on_sheet (pages_of self.old) sheet (withdrawn (S.transitions system.now) (length out.old)))) }
+        ensures buffer { out.new ≡ kept (answered (on_sheet (pages_of self.old) sheet (withdrawn (S.transitions system.now) (length out.old)))) out.old }
+        ensures pages { pages_of self.new ≡ pages_after (on_sheet (pages_of self.old) sheet (withdrawn (S.transitions system.now) (length out.old))) (pages_of self.old) sheet }
         ensures untouched { is_err result ≡ true → self.new ≡ self.old }
     {
         let s = sheet as usize;
@@ -87,8 +87,8 @@ impl Bench {
         sheet: u8,
         place: u8,
     ) -> Result<(), BenchFault>
-        ensures answer { result ≡ accepted (on_sheet (pages_of self.old) sheet (swapped (transitions system.now) (independence system.now) place)) }
-        ensures pages { pages_of self.new ≡ pages_after (on_sheet (pages_of self.old) sheet (swapped (transitions system.now) (independence system.now) place)) (pages_of self.old) sheet }
+        ensures answer { result ≡ accepted (on_sheet (pages_of self.old) sheet (swapped (S.transitions system.now) (S.independence system.now) place)) }
+        ensures pages { pages_of self.new ≡ pages_after (on_sheet (pages_of self.old) sheet (swapped (S.transitions system.now) (S.independence system.now) place)) (pages_of self.old) sheet }
         ensures untouched { is_err result ≡ true → self.new ≡ self.old }
     {
         let s = sheet as usize;
@@ -116,8 +116,8 @@ impl Bench {
         sheet: u8,
         other: u8,
     ) -> Result<(u8, u8), BenchFault>
-        ensures answer { pair_told result ≡ answered (on_sheet (pages_of self.old) sheet (joined (transitions system.now) (independence system.now) (page_at (pages_of self.old) other))) }
-        ensures pages { pages_of self.new ≡ pages_after (on_sheet (pages_of self.old) sheet (joined (transitions system.now) (independence system.now) (page_at (pages_of self.old) other))) (pages_of self.old) sheet }
+        ensures answer { pair_told result ≡ answered (on_sheet (pages_of self.old) sheet (joined (S.transitions system.now) (S.independence system.now) (page_at (pages_of self.old) other))) }
+        ensures pages { pages_of self.new ≡ pages_after (on_sheet (pages_of self.old) sheet (joined (S.transitions system.now) (S.independence system.now) (page_at (pages_of self.old) other))) (pages_of self.old) sheet }
         ensures untouched { is_err result ≡ true → self.new ≡ self.old }
     {
         let s = sheet as usize;
@@ -130,8 +130,8 @@ impl Bench {
 
     // Releases an open sheet, so that it can be printed.
     pub fn release<S: StepSystem>(&mut self, system: &S, sheet: u8) -> Result<(), BenchFault>
-        ensures answer { result ≡ accepted (on_sheet (pages_of self.old) sheet (released (transitions system.now))) }
-        ensures pages { pages_of self.new ≡ pages_after (on_sheet (pages_of self.old) sheet (released (transitions system.now))) (pages_of self.old) sheet }
+        ensures answer { result ≡ accepted (on_sheet (pages_of self.old) sheet (released (S.transitions system.now))) }
+        ensures pages { pages_of self.new ≡ pages_after (on_sheet (pages_of self.old) sheet (released (S.transitions system.now))) (pages_of self.old) sheet }
         ensures untouched { is_err result ≡ true → self.new ≡ self.old }
     {
         let s = sheet as usize;
@@ -143,8 +143,8 @@ impl Bench {
 
     // Opens a released sheet again, as it is.
     pub fn reopen<S: StepSystem>(&mut self, system: &S, sheet: u8) -> Result<(), BenchFault>
-        ensures answer { result ≡ accepted (on_sheet (pages_of self.old) sheet (reopened (transitions system.now))) }
-        ensures pages { pages_of self.new ≡ pages_after (on_sheet (pages_of self.old) sheet (reopened (transitions system.now))) (pages_of self.old) sheet }
+        ensures answer { result ≡ accepted (on_sheet (pages_of self.old) sheet (reopened (S.transitions system.now))) }
+        ensures pages { pages_of self.new ≡ pages_after (on_sheet (pages_of self.old) sheet (reopened (S.transitions system.now))) (pages_of self.old) sheet }
         ensures untouched { is_err result ≡ true → self.new ≡ self.old }
     {
         let s = sheet as usize;
@@ -161,8 +161,8 @@ impl Bench {
         sheet: u8,
         out: &mut [u8],
     ) -> Result<usize, BenchFault>
-        ensures answer { result ≡ count (answered (on_sheet (pages_of self.now) sheet (printed (transitions system.now) (length out.old)))) }
-        ensures buffer { out.new ≡ kept (answered (on_sheet (pages_of self.now) sheet (printed (transitions system.now) (length out.old)))) out.old }
+        ensures answer { result ≡ count (answered (on_sheet (pages_of self.now) sheet (printed (S.transitions system.now) (length out.old)))) }
+        ensures buffer { out.new ≡ kept (answered (on_sheet (pages_of self.now) sheet (printed (S.transitions system.now) (length out.old)))) out.old }
         ensures bound { IfOk result (λ n. n ≤ 5222) }
     {
         let s = sheet as usize;

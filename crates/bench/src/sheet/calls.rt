@@ -32,8 +32,8 @@ impl Sheet {
         system: &S,
         state: &[u8],
     ) -> Result<(), BenchFault>
-        ensures answer { result ≡ accepted (opened (transitions system.now) state.now (page_of self.old)) }
-        ensures page { page_of self.new ≡ after (opened (transitions system.now) state.now (page_of self.old)) (page_of self.old) }
+        ensures answer { result ≡ accepted (opened (S.transitions system.now) state.now (page_of self.old)) }
+        ensures page { page_of self.new ≡ after (opened (S.transitions system.now) state.now (page_of self.old)) (page_of self.old) }
         ensures untouched { is_err result ≡ true → self.new ≡ self.old }
     {
         if let Standing::Released = self.head.standing {
@@ -58,9 +58,9 @@ impl Sheet {
         step: &[u8],
         out: &mut [u8],
     ) -> Result<usize, BenchFault>
-        ensures answer { result ≡ count (answered (added (transitions system.now) step.now (length out.old) (page_of self.old))) }
-        ensures buffer { out.new ≡ kept (answered (added (transitions system.now) step.now (length out.old) (page_of self.old))) out.old }
-        ensures page { page_of self.new ≡ after (added (transitions system.now) step.now (length out.old) (page_of self.old)) (page_of self.old) }
+        ensures answer { result ≡ count (answered (added (S.transitions system.now) step.now (length out.old) (page_of self.old))) }
+        ensures buffer { out.new ≡ kept (answered (added (S.transitions system.now) step.now (length out.old) (page_of self.old))) out.old }
+        ensures page { page_of self.new ≡ after (added (S.transitions system.now) step.now (length out.old) (page_of self.old)) (page_of self.old) }
         ensures untouched { is_err result ≡ true → self.new ≡ self.old }
     {
         let head = self.head;
@@ -88,9 +88,9 @@ impl Sheet {
         system: &S,
         out: &mut [u8],
     ) -> Result<usize, BenchFault>
-        ensures answer { result ≡ count (answered (withdrawn (transitions system.now) (length out.old) (page_of self.old))) }
-        ensures buffer { out.new ≡ kept (answered (withdrawn (transitions system.now) (length out.old) (page_of self.old))) out.old }
-        ensures page { page_of self.new ≡ after (withdrawn (transitions system.now) (length out.old) (page_of self.old)) (page_of self.old) }
+        ensures answer { result ≡ count (answered (withdrawn (S.transitions system.now) (length out.old) (page_of self.old))) }
+        ensures buffer { out.new ≡ kept (answered (withdrawn (S.transitions system.now) (length out.old) (page_of self.old))) out.old }
+        ensures page { page_of self.new ≡ after (withdrawn (S.transitions system.now) (length out.old) (page_of self.old)) (page_of self.old) }
         ensures untouched { is_err result ≡ true → self.new ≡ self.old }
     {
         let head = self.head;

@@ -36,7 +36,7 @@ impl Sheet {
 
     // Replays both sheets and compares their starts, and answers the end of this one.
     fn alike<S: StepSystem>(&self, system: &S, other: &Sheet) -> Result<Held<256>, BenchFault>
-        ensures { said result ≡ join_of.alike (transitions system.now) (page_of self.now) (page_of other.now) }
+        ensures { said result ≡ join_of.alike (S.transitions system.now) (page_of self.now) (page_of other.now) }
     {
         let end = self.replay(system, self.head.len)?;
         other.replay(system, other.head.len)?;
@@ -54,9 +54,9 @@ impl Sheet {
         other: &Sheet,
         end: &Held<256>,
     ) -> Result<StepList, BenchFault>
-        requires first { is_ok (end_told (transitions system.now) (page_of self.now)) ≡ true }
-        requires second { is_ok (end_told (transitions system.now) (page_of other.now)) ≡ true }
-        ensures value { join_of.list_told result ≡ join_of.surviving (transitions system.now) (independence system.now) (text_of end.now) (page_of self.now) (page_of other.now) }
+        requires first { is_ok (end_told (S.transitions system.now) (page_of self.now)) ≡ true }
+        requires second { is_ok (end_told (S.transitions system.now) (page_of other.now)) ≡ true }
+        ensures value { join_of.list_told result ≡ join_of.surviving (S.transitions system.now) (S.independence system.now) (text_of end.now) (page_of self.now) (page_of other.now) }
         ensures few { IfOk result (λ added. length (steps_in added) ≤ other.now.head.len) }
         ensures room { IfOk result (λ added. self.now.head.len + length (steps_in added) ≤ 32) }
     {
@@ -91,8 +91,8 @@ impl Sheet {
         system: &S,
         other: Option<Sheet>,
     ) -> Result<(u8, u8), BenchFault>
-        ensures answer { join_of.pair_told result ≡ answered (join_of.joined (transitions system.now) (independence system.now) (join_of.named_page other) (page_of self.old)) }
-        ensures page { page_of self.new ≡ after (join_of.joined (transitions system.now) (independence system.now) (join_of.named_page other) (page_of self.old)) (page_of self.old) }
+        ensures answer { join_of.pair_told result ≡ answered (join_of.joined (S.transitions system.now) (S.independence system.now) (join_of.named_page other) (page_of self.old)) }
+        ensures page { page_of self.new ≡ after (join_of.joined (S.transitions system.now) (S.independence system.now) (join_of.named_page other) (page_of self.old)) (page_of self.old) }
         ensures untouched { is_err result ≡ true → self.new ≡ self.old }
     {
         let Standing::Open = self.head.standing else {

@@ -28,10 +28,10 @@ impl Sheet {
 
     // Writes the lines of the steps over the front of `out`, and answers their length.
     fn print_steps<S: StepSystem>(&self, system: &S, out: &mut [u8]) -> usize
-        requires replays { is_ok (end_told (transitions system.now) (page_of self.now)) ≡ true }
+        requires replays { is_ok (end_told (S.transitions system.now) (page_of self.now)) ≡ true }
         requires room { lines_length (steps_of (page_of self.now)) ≤ length out.old }
         ensures value { result ≡ lines_length (steps_of (page_of self.now)) }
-        ensures buffer { out.new ≡ over (step_lines (transitions system.now) (steps_of (page_of self.now))) out.old }
+        ensures buffer { out.new ≡ over (step_lines (S.transitions system.now) (steps_of (page_of self.now))) out.old }
     {
         let mut n = 0;
         for i in 0..self.head.len {
@@ -51,8 +51,8 @@ impl Sheet {
         system: &S,
         out: &mut [u8],
     ) -> Result<usize, BenchFault>
-        ensures answer { result ≡ count (answered (printed (transitions system.now) (length out.old) (page_of self.now))) }
-        ensures buffer { out.new ≡ kept (answered (printed (transitions system.now) (length out.old) (page_of self.now))) out.old }
+        ensures answer { result ≡ count (answered (printed (S.transitions system.now) (length out.old) (page_of self.now))) }
+        ensures buffer { out.new ≡ kept (answered (printed (S.transitions system.now) (length out.old) (page_of self.now))) out.old }
         ensures bound { IfOk result (λ n. n ≤ 5222) }
     {
         let head = self.head;
@@ -70,9 +70,9 @@ impl Sheet {
 
     // Writes the text, which ends in the state `end`, over the front of `out`.
     fn write_text<S: StepSystem>(&self, system: &S, end: &Held<256>, out: &mut [u8])
-        requires replays { is_ok (end_told (transitions system.now) (page_of self.now)) ≡ true }
+        requires replays { is_ok (end_told (S.transitions system.now) (page_of self.now)) ≡ true }
         requires room { text_length (page_of self.now) (text_of end.now) ≤ length out.old }
-        ensures { out.new ≡ over (sheet_text (transitions system.now) (page_of self.now) (text_of end.now)) out.old }
+        ensures { out.new ≡ over (sheet_text (S.transitions system.now) (page_of self.now) (text_of end.now)) out.old }
     {
         let start = self.start.text();
         let _ = line::write(&[0, self.head.len as u8], start, out);

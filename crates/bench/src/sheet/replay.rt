@@ -28,7 +28,7 @@ impl Sheet {
         count: usize,
     ) -> Result<Held<256>, BenchFault>
         requires { count ≤ 32 }
-        ensures { said result ≡ replayed (transitions system.now) (text_of self.now.start) (take count (page_of self.now).rows) }
+        ensures { said result ≡ replayed (S.transitions system.now) (text_of self.now.start) (take count (page_of self.now).rows) }
     {
         if let Err(fault) = system.state(self.start.text()) {
             return Err(BenchFault::Stopped(0, fault));

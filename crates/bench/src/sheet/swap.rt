@@ -22,16 +22,16 @@ impl Sheet {
     ) -> Result<Option<Neighbours>, MaskFault>
         requires above { 0 < n }
         requires below { n < self.now.head.len }
-        requires replays { is_ok (end_told (transitions system.now) (page_of self.now)) ≡ true }
-        ensures { neighbours_told result ≡ exchanged_told (independence system.now) (slice_index_or (page_of self.now).rows (n - 1) []) (slice_index_or (page_of self.now).rows n []) }
+        requires replays { is_ok (end_told (S.transitions system.now) (page_of self.now)) ≡ true }
+        ensures { neighbours_told result ≡ exchanged_told (S.independence system.now) (slice_index_or (page_of self.now).rows (n - 1) []) (slice_index_or (page_of self.now).rows n []) }
     {
         exchange(system, &self.rows[n - 1], &self.rows[n])
     }
 
     // Exchanges the steps `place` and `place` + 1: what the second was before the first comes first, then what is left of the first.
     pub(crate) fn swap<S: StepSystem>(&mut self, system: &S, place: u8) -> Result<(), BenchFault>
-        ensures answer { result ≡ accepted (swapped (transitions system.now) (independence system.now) place (page_of self.old)) }
-        ensures page { page_of self.new ≡ after (swapped (transitions system.now) (independence system.now) place (page_of self.old)) (page_of self.old) }
+        ensures answer { result ≡ accepted (swapped (S.transitions system.now) (S.independence system.now) place (page_of self.old)) }
+        ensures page { page_of self.new ≡ after (swapped (S.transitions system.now) (S.independence system.now) place (page_of self.old)) (page_of self.old) }
         ensures untouched { is_err result ≡ true → self.new ≡ self.old }
     {
         let head = self.head;

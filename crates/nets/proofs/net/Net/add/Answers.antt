@@ -25,16 +25,12 @@ returns-in-Some c =
     record { answer = sym (ap add_told fault); events = after es c.args.event fault; refused = λ _. refl }
 
 pub invariant_of-self : goal.invariant_of-self
-invariant_of-self c = (
-  length-set c.args.self.now.events c.args.self.now.count c.args.event ∙ c.args.self.now.long,
-  (
-    omega arith,
-    (
-      stored_sound c.args.self.now c.args.event c.if-self-ge-EVENT_LIMIT.false (omega arith) (omega arith) (sym c.fault.ensures ∙ c.in_default.is),
-      tt,
-    ),
-  ),
-)
+invariant_of-self c =
+    record {
+      long = length-set c.args.self.now.events c.args.self.now.count c.args.event ∙ c.args.self.now.long;
+      bounded = omega arith;
+      sound = stored_sound c.args.self.now c.args.event c.if-self-ge-EVENT_LIMIT.false (omega arith) (omega arith) (sym c.fault.ensures ∙ c.in_default.is);
+    }
 
 pub returns : goal.returns
 returns c =
