@@ -26,7 +26,7 @@ returns-in_default g c =
 pub returns-in_err-end : goal.returns-in_err-end
 returns-in_err-end g c =
     let p = page_of c.args.self.now in
-    let q = err_from_is_err_and c.from-residual.result c.from-residual.ensures.1 in
+    let q = err_from_is_err_and c.from_residual.result c.from_residual.ensures.1 in
     let e : added (g.S.StepSystem.transitions c.args.system.now) c.args.step.now (length c.args.out.now) p ≡ Err c.in_err-end.field-0.0 = open_stopped p _ _ _ c.in-Open.is c.in_err-end.ensures in
     record { answer = q.1 ∙ ap Err q.2 ∙ sym (ap (λ o. count (answered o)) e); buffer = sym (ap (λ o. kept (answered o) c.args.out.now) e); page = sym (ap (λ o. after o p) e); untouched = λ _. refl }
 
@@ -40,7 +40,7 @@ pub returns-in_err-n : goal.returns-in_err-n
 returns-in_err-n g c =
     let p = page_of c.args.self.now in
     let f = c.in_err-n.field-0.0 in
-    let q = err_from_is_err_and c.from-residual-in_err-n.result c.from-residual-in_err-n.ensures.1 in
+    let q = err_from_is_err_and c.from_residual-in_err-n.result c.from_residual-in_err-n.ensures.1 in
     let r = not_counted _ f (rw c.text.ensures.value at c.in_err-n.ensures.answer) in
     let b = rw c.text.ensures.value at c.in_err-n.ensures.buffer in
     let e = added_refused (g.S.StepSystem.transitions c.args.system.now) p c.args.step.now (length c.args.out.now) c.in-Open.is (text_of c.in_ok-end.end) c.in_ok-end.ensures f c.if-head-ge32.false r in

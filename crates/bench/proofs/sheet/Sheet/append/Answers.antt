@@ -11,7 +11,8 @@ page_with : Standing → Str → ℕ → List Str → Page
 page_with st s n rows = record { standing = st; len = n; start = s; rows = rows }
 
 pub invariant_of-self : goal.invariant_of-self
-invariant_of-self c = (omega (arith, ap length c.steps.ensures.value, length-map c.steps.result.now text_of, c.requires), tt)
+invariant_of-self c =
+    record { few = omega (arith, ap length c.steps.ensures.value, length-map c.steps.result.now text_of, c.requires) }
 
 pub returns : goal.returns
 unfolding page_with

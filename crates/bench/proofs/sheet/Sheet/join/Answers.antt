@@ -35,7 +35,7 @@ returns-in-Blank g c =
 pub returns-in_err-end : goal.returns-in_err-end
 returns-in_err-end g c =
     let p = page_of c.args.self.now in
-    let q = err_from_is_err_and c.from-residual.result c.from-residual.ensures.1 in
+    let q = err_from_is_err_and c.from_residual.result c.from_residual.ensures.1 in
     let e' = page_of c.in-Some.other in
     let named = ap (λ o. joined (g.S.StepSystem.transitions c.args.system.now) (g.S.StepSystem.independence c.args.system.now) (named_page o) p) c.in-Some.is in
     let e = named ∙ joined_unlike (g.S.StepSystem.transitions c.args.system.now) (g.S.StepSystem.independence c.args.system.now) p c.in-Open.is e' c.in_default-standing.not-Blank c.in_err-end.field-0.0 c.in_err-end.ensures in
@@ -44,7 +44,7 @@ returns-in_err-end g c =
 pub returns-in_err-added : goal.returns-in_err-added
 returns-in_err-added g c =
     let p = page_of c.args.self.now in
-    let q = err_from_is_err_and c.from-residual-in_err-added.result c.from-residual-in_err-added.ensures.1 in
+    let q = err_from_is_err_and c.from_residual-in_err-added.result c.from_residual-in_err-added.ensures.1 in
     let e' = page_of c.in-Some.other in
     let named = ap (λ o. joined (g.S.StepSystem.transitions c.args.system.now) (g.S.StepSystem.independence c.args.system.now) (named_page o) p) c.in-Some.is in
     let e = named ∙ joined_refused (g.S.StepSystem.transitions c.args.system.now) (g.S.StepSystem.independence c.args.system.now) p c.in-Open.is e' c.in_default-standing.not-Blank (text_of c.in_ok-end.end) c.in_ok-end.ensures c.in_err-added.field-0.0 c.in_err-added.ensures.value in

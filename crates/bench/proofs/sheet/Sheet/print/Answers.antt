@@ -19,9 +19,9 @@ returns-in_default g c =
 pub returns-in_err-end : goal.returns-in_err-end
 returns-in_err-end g c =
     let p = page_of c.args.self.now in
-    let q = err_from_is_err_and c.from-residual.result c.from-residual.ensures.1 in
+    let q = err_from_is_err_and c.from_residual.result c.from_residual.ensures.1 in
     let e : printed (g.S.StepSystem.transitions c.args.system.now) (length c.args.out.now) p ≡ Err c.in_err-end.field-0.0 = released_stopped p _ _ _ c.in-Released.is c.in_err-end.ensures in
-    record { answer = q.1 ∙ ap Err q.2 ∙ sym (ap (λ o. count (answered o)) e); buffer = sym (ap (λ o. kept (answered o) c.args.out.now) e); bound = IfOk-from_err c.from-residual.result _ c.from-residual.ensures.0 }
+    record { answer = q.1 ∙ ap Err q.2 ∙ sym (ap (λ o. count (answered o)) e); buffer = sym (ap (λ o. kept (answered o) c.args.out.now) e); bound = IfOk-from_err c.from_residual.result _ c.from_residual.ensures.0 }
 
 pub write_text-requires : goal.write_text-requires
 write_text-requires g c = record { replays = sym (ap is_ok c.in_ok-end.ensures); room = omega (arith, c.text_len-len.ensures.value) }

@@ -17,7 +17,7 @@ returns-in_default g c =
 pub returns-in_err-replay : goal.returns-in_err-replay
 returns-in_err-replay g c =
     let p = page_of c.args.self.now in
-    let q = err_from_is_err_and c.from-residual.result c.from-residual.ensures.1 in
+    let q = err_from_is_err_and c.from_residual.result c.from_residual.ensures.1 in
     let e : released (g.S.StepSystem.transitions c.args.system.now) p ≡ Err c.in_err-replay.field-0.0 = open_stopped p _ _ _ c.in-Open.is c.in_err-replay.ensures in
     record { answer = q.1 ∙ ap Err q.2 ∙ sym (ap accepted e); page = sym (ap (λ o. after o p) e); untouched = λ _. refl }
 

@@ -23,7 +23,7 @@ returns-in-Released g c =
 pub returns-in_err-state : goal.returns-in_err-state
 returns-in_err-state g c =
     let p = page_of c.args.self.now in
-    let q = err_from_is_err_and c.from-residual.result c.from-residual.ensures.1 in
+    let q = err_from_is_err_and c.from_residual.result c.from_residual.ensures.1 in
     let e = opened_refused (g.S.StepSystem.transitions c.args.system.now) p c.args.state.now c.in_default.not-Released c.in_err-state.field-0.0 c.in_err-state.ensures in
     record { answer = q.1 ∙ ap Err q.2 ∙ sym (ap accepted e); page = sym (ap (λ o. after o p) e); untouched = λ _. refl }
 

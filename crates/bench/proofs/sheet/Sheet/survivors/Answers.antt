@@ -53,7 +53,7 @@ returns-in_err-lead g c =
     let added = steps_in c.in-Ok.added in
     let size : length c.steps-3.result.now ≡ length added = sym (length-map c.steps-3.result.now text_of) ∙ ap length c.steps-3.ensures.value in
     let fits : p.len + length added ≤ 32 = omega arith in
-    let q = err_from_is_err_and c.from-residual.result c.from-residual.ensures.1 in
+    let q = err_from_is_err_and c.from_residual.result c.from_residual.ensures.1 in
     let f = c.in_err-lead.field-0.0 in
     let e = stops_on_the_way (g.S.StepSystem.transitions c.args.system.now) i (text_of c.args.end.now) p (page_of c.args.other.now) added (c.in-Ok.ensures.value ∙ both_steps i _ _ _ _ c.steps.ensures c.steps-2.ensures) fits f c.in_err-lead.ensures in
     record { value = ap list_told (q.1 ∙ ap Err q.2) ∙ sym e; few = subst (λ r. IfOk r (λ l. length (steps_in l) ≤ c.args.other.now.head.len)) (sym q.1) tt; room = subst (λ r. IfOk r (λ l. p.len + length (steps_in l) ≤ 32)) (sym q.1) tt }

@@ -27,7 +27,7 @@ returns-in_default g c =
 pub returns-in_err-replay : goal.returns-in_err-replay
 returns-in_err-replay g c =
     let p = page_of c.args.self.now in
-    let q = err_from_is_err_and c.from-residual.result c.from-residual.ensures.1 in
+    let q = err_from_is_err_and c.from_residual.result c.from_residual.ensures.1 in
     let e : swapped (g.S.StepSystem.transitions c.args.system.now) (g.S.StepSystem.independence c.args.system.now) c.args.place p ≡ Err c.in_err-replay.field-0.0 = open_stopped p _ _ _ c.in-Open.is c.in_err-replay.ensures in
     record { answer = q.1 ∙ ap Err q.2 ∙ sym (ap accepted e); page = sym (ap (λ o. after o p) e); untouched = λ _. refl }
 
@@ -43,7 +43,7 @@ neighbours-requires g c = record { above = omega arith; below = omega arith; rep
 pub returns-in_err-exchanged : goal.returns-in_err-exchanged
 returns-in_err-exchanged g c =
     let p = page_of c.args.self.now in
-    let q = err_from_is_err_and c.from-residual-in_err-exchanged.result c.from-residual-in_err-exchanged.ensures.1 in
+    let q = err_from_is_err_and c.from_residual-in_err-exchanged.result c.from_residual-in_err-exchanged.ensures.1 in
     let above : 0 < c.args.place = omega arith in
     let below : c.args.place < p.len = omega arith in
     let e = swapped_refused (g.S.StepSystem.transitions c.args.system.now) (g.S.StepSystem.independence c.args.system.now) p c.args.place c.in-Open.is (text_of c.in_ok-replay.field-0) c.in_ok-replay.ensures above below c.in_err-exchanged.field-0.0 c.in_err-exchanged.ensures in
@@ -60,7 +60,7 @@ returns-in_default-exchanged g c =
 pub returns-in_err-before : goal.returns-in_err-before
 returns-in_err-before g c =
     let p = page_of c.args.self.now in
-    let q = err_from_is_err_and c.from-residual-in_err-before.result c.from-residual-in_err-before.ensures.1 in
+    let q = err_from_is_err_and c.from_residual-in_err-before.result c.from_residual-in_err-before.ensures.1 in
     let above : 0 < c.args.place = omega arith in
     let below : c.args.place < p.len = omega arith in
     let x : Pair = record { first = text_of c.in-Some.neighbours.first; second = text_of c.in-Some.neighbours.second } in
@@ -71,7 +71,7 @@ returns-in_err-before g c =
 pub returns-in_err-following : goal.returns-in_err-following
 returns-in_err-following g c =
     let p = page_of c.args.self.now in
-    let q = err_from_is_err_and c.from-residual-in_err-following.result c.from-residual-in_err-following.ensures.1 in
+    let q = err_from_is_err_and c.from_residual-in_err-following.result c.from_residual-in_err-following.ensures.1 in
     let above : 0 < c.args.place = omega arith in
     let below : c.args.place < p.len = omega arith in
     let x : Pair = record { first = text_of c.in-Some.neighbours.first; second = text_of c.in-Some.neighbours.second } in

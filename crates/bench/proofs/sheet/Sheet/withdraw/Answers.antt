@@ -19,7 +19,7 @@ returns-in_default g c =
 pub returns-in_err-replay : goal.returns-in_err-replay
 returns-in_err-replay g c =
     let p = page_of c.args.self.now in
-    let q = err_from_is_err_and c.from-residual.result c.from-residual.ensures.1 in
+    let q = err_from_is_err_and c.from_residual.result c.from_residual.ensures.1 in
     let e : withdrawn (g.S.StepSystem.transitions c.args.system.now) (length c.args.out.now) p ≡ Err c.in_err-replay.field-0.0 = open_stopped p _ _ _ c.in-Open.is c.in_err-replay.ensures in
     record { answer = q.1 ∙ ap Err q.2 ∙ sym (ap (λ o. count (answered o)) e); buffer = sym (ap (λ o. kept (answered o) c.args.out.now) e); page = sym (ap (λ o. after o p) e); untouched = λ _. refl }
 
@@ -33,7 +33,7 @@ pub returns-in_err-end : goal.returns-in_err-end
 returns-in_err-end g c =
     let p = page_of c.args.self.now in
     let some : 0 < p.len = omega arith in
-    let q = err_from_is_err_and c.from-residual-in_err-end.result c.from-residual-in_err-end.ensures.1 in
+    let q = err_from_is_err_and c.from_residual-in_err-end.result c.from_residual-in_err-end.ensures.1 in
     let e = withdrawn_stopped (g.S.StepSystem.transitions c.args.system.now) p (length c.args.out.now) c.in-Open.is (text_of c.in_ok-replay.field-0) c.in_ok-replay.ensures c.in_err-end.field-0.0 some c.in_err-end.ensures in
     record { answer = q.1 ∙ ap Err q.2 ∙ sym (ap (λ o. count (answered o)) e); buffer = sym (ap (λ o. kept (answered o) c.args.out.now) e); page = sym (ap (λ o. after o p) e); untouched = λ _. refl }
 
@@ -42,7 +42,7 @@ returns-in_err-n g c =
     let p = page_of c.args.self.now in
     let some : 0 < p.len = omega arith in
     let f = c.in_err-n.field-0.0 in
-    let q = err_from_is_err_and c.from-residual-in_err-n.result c.from-residual-in_err-n.ensures.1 in
+    let q = err_from_is_err_and c.from_residual-in_err-n.result c.from_residual-in_err-n.ensures.1 in
     let r = not_counted _ f c.in_err-n.ensures.answer in
     let e = withdrawn_refused (g.S.StepSystem.transitions c.args.system.now) p (length c.args.out.now) c.in-Open.is (text_of c.in_ok-replay.field-0) c.in_ok-replay.ensures (text_of c.in_ok-end.end) f some c.in_ok-end.ensures r in
     record { answer = q.1 ∙ ap Err q.2 ∙ sym (ap (λ o. count (answered o)) e); buffer = c.in_err-n.ensures.buffer ∙ ap (λ o. kept o c.args.out.now) r ∙ sym (ap (λ o. kept (answered o) c.args.out.now) e); page = sym (ap (λ o. after o p) e); untouched = λ _. refl }
