@@ -1,8 +1,8 @@
 -- How a join comes out, and the rows that it writes. Assumes nothing.
-use Rattle.std.proofs.Common.{◌≡◌, ℕ, ◌+◌, ◌-◌, ◌<◌, ◌≤◌, Bool, true, false, cond, leb, List, [], ◌∷◌, ◌++◌, length, get_or, take, drop, set, is_ok, Some, None, Ok, Err, Decides, Option, Result, sym, refl, ap, ◌∙◌, ap₂, append_assoc, append-nil, arith}
+use Rattle.std.proofs.Common.{◌≡◌, ℕ, ◌+◌, ◌<◌, ◌≤◌, Bool, true, false, cond, leb, List, [], ◌∷◌, ◌++◌, length, get_or, take, drop, set, is_ok, Some, None, Ok, Err, Decides, Result, sym, refl, ap, ◌∙◌, ap₂, append_assoc, arith}
 use Rattle.std.proofs.lemmas.Slice.Eq.{bytes_eq-Decides}
-use Rattle.std.proofs.lemmas.List.{at_drop_more, at_drop_all, take-append-drop, length-append, length-take-le, take_more, drop_more, set_at, length_push}
-use Rattle.std.proofs.lemmas.Bool.{cond-true, cond-false, le-leb, lt-leb, both_ways, cases_Bool}
+use Rattle.std.proofs.lemmas.List.{at_drop_more, at_drop_all, take-append-drop, length-append, length-take-le, take_more, drop_more, set_at}
+use Rattle.std.proofs.lemmas.Bool.{cond-true, cond-false, le-leb, lt-leb, both_ways}
 use Rattle.std.specs.Str.{bytes_eq}
 use Rattle.steps.specs.Meaning.{Str, Transitions, Independence}
 use Rattle.steps.specs.declared.fault.MaskFault.{MaskFault}
@@ -16,9 +16,9 @@ use Rattle.bench.specs.declared.sheet.Standing.{Standing}
 use Rattle.bench.specs.declared.sheet.Standing.TheVariants.{Blank, Open, Released}
 use Rattle.bench.specs.Page.{Page, steps_of}
 use Rattle.bench.specs.Replay.{end_told}
-use Rattle.bench.specs.Calls.{Outcome, from_system, when_open}
+use Rattle.bench.specs.Calls.{Outcome, from_system}
 use Rattle.bench.specs.Join.{led, and_then, alike, fitting, surviving, written, merged, unless_blank, joined}
-use Rattle.bench.proofs.Calling.{is_open, not_open}
+use Rattle.bench.proofs.Calling.{is_open}
 
 and_then_err : {A B : Type 0} (r : Result A BenchFault) (k : A → Result B BenchFault) (f : BenchFault) → Err f ≡ r → and_then r k ≡ Err f
 and_then_err r k f e = sym (ap (λ w. and_then w k) e)

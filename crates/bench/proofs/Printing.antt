@@ -1,11 +1,10 @@
 -- The lines of the steps of a sheet that replays, one by one. Assumes nothing.
-use Rattle.std.proofs.Common.{◌≡◌, ℕ, zero, suc, ◌+◌, ◌-◌, ◌*◌, ◌<◌, ◌≤◌, min, Bool, true, false, cond, leb, List, [], ◌∷◌, ◌++◌, length, get_or, take, drop, is_ok, Ok, Err, Result, sym, refl, ap, ◌∙◌, subst, arith, length-append, length-take}
+use Rattle.std.proofs.Common.{◌≡◌, ℕ, zero, suc, ◌+◌, ◌-◌, ◌*◌, ◌<◌, ◌≤◌, min, Bool, true, false, leb, List, [], ◌∷◌, ◌++◌, length, get_or, take, drop, is_ok, Ok, Err, Result, sym, refl, ap, ◌∙◌, arith, length-append}
 use borrow.Rule.Slice.PartMut.{put_mid}
 use Rattle.std.proofs.lemmas.List.{take_more, take-take, take-append-drop, flat_map_more, append_assoc}
 use Rattle.std.proofs.lemmas.Bool.{cond-true, cond-false, le-leb, lt-leb}
-use Rattle.std.specs.List.{flat_map}
 use Rattle.byte_strings.specs.Buffer.{over, copied}
-use Rattle.byte_strings.proofs.Over.{copied_over, over_part, copied_part, length_over}
+use Rattle.byte_strings.proofs.Over.{copied_over, over_part, copied_part}
 use Rattle.hexadecimal.specs.Line.{line}
 use Rattle.hexadecimal.proofs.Lines.{length_line}
 use Rattle.steps.specs.declared.label.Label.{Label}

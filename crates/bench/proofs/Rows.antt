@@ -1,9 +1,9 @@
 -- Rows and states as held strings. Assumes nothing.
-use Rattle.std.proofs.Common.{◌≡◌, ℕ, ◌-◌, ◌≤◌, true, cond, leb, List, map, length, take, drop, set, replicate, Some, None, Ok, sym, refl, ap, ◌∙◌, arith}
+use Rattle.std.proofs.Common.{◌≡◌, ℕ, ◌-◌, ◌≤◌, true, cond, leb, List, map, length, take, drop, set, Some, None, Ok, sym, refl, ap, ◌∙◌, arith}
 use Rattle.std.proofs.lemmas.List.{map-set, take_at}
 use Rattle.std.proofs.lemmas.Bool.{cond-true, le-leb}
 use Rattle.byte_strings.specs.declared.held.Held.{Held}
-use Rattle.byte_strings.specs.Buffer.{Str, over, count, kept}
+use Rattle.byte_strings.specs.Buffer.{Str, count, kept}
 use Rattle.byte_strings.specs.Text.{text_of, fitted}
 use Rattle.byte_strings.proofs.Texts.{fitted_is}
 use Rattle.steps.specs.Meaning.{Transitions}

@@ -1,5 +1,5 @@
 -- What the replay of a sheet in a system gives: its end, or the step that stops it and why. Assumes nothing.
-use Rattle.std.specs.Prelude.{ℕ, ◌+◌, List, [], ◌∷◌, take, Ok, Err, Result}
+use Rattle.std.specs.Prelude.{ℕ, ◌+◌, List, [], ◌∷◌, Ok, Err, Result}
 use Rattle.steps.specs.Meaning.{Str, Transitions}
 use Rattle.steps.specs.Told.{state_told, next_told}
 use Rattle.bench.specs.declared.fault.BenchFault.{BenchFault}

@@ -1,6 +1,6 @@
 -- A swap of neighbours on a sheet. Assumes nothing.
 use Rattle.std.specs.Prelude.{ℕ, ◌-◌, cond, ◌&&◌, [], take, Some, None, Ok, Err, Option, Result, nat_lt, slice_index_or, slice_set}
-use Rattle.steps.specs.Meaning.{Str, Transitions, Independence}
+use Rattle.steps.specs.Meaning.{Transitions, Independence}
 use Rattle.steps.specs.declared.fault.MaskFault.{MaskFault}
 use Rattle.steps.specs.Told.{next_told}
 use Rattle.joins.specs.Exchange.{Pair, exchanged_told}

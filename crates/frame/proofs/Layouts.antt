@@ -5,7 +5,6 @@ use Rattle.std.proofs.lemmas.Bool.{le-leb, leb-true, leb-false}
 use Rattle.frame.specs.Frames.{FrameView, counted, setup_bytes, bytes_of, Whole, Laid_out}
 use Rattle.frame.specs.Frames.FrameView.{setup, open_sheet, add, withdraw, release, reopen, print}
 use Rattle.frame.specs.Reading.{part_told, Layout, with_events, with_names, with_pairs, layout_told}
-use Rattle.frame.specs.Format.BadAt.{pairs, names, events}
 use Rattle.frame.proofs.Parts.{held, never}
 
 -- parts

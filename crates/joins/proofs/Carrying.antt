@@ -5,10 +5,10 @@ use Rattle.byte_strings.specs.declared.held.Held.{Held}
 use Rattle.byte_strings.specs.Text.{text_of}
 use Rattle.steps.specs.Meaning.{Str, Transitions, Independence}
 use Rattle.steps.specs.Laws.{Laws}
-use Rattle.runs.specs.Join.{Met, meet, Carried, in_front, carry}
+use Rattle.runs.specs.Join.{meet, Carried, in_front, carry}
 use Rattle.runs.specs.Join.Met.{same, passes, hits}
 use Rattle.runs.specs.Join.Carried.{clash, gone, kept}
-use Rattle.runs.proofs.Carry.{Carries, Meant, meet_means, carry_same, carry_passes, carry_hits}
+use Rattle.runs.proofs.Carry.{Carries, meet_means, carry_same, carry_passes, carry_hits}
 use Rattle.runs.proofs.Carry.Carries.{through, meets, past}
 use Rattle.joins.specs.Steps.{ShortStep, ShortSteps}
 use Rattle.joins.proofs.Asking.{left_short}

@@ -4,7 +4,6 @@ use Rattle.std.proofs.lemmas.List.{length-map, length-take, length_push, take_al
 use Rattle.std.proofs.lemmas.Bool.{cases_lt}
 use Rattle.byte_strings.specs.declared.held.Held.{Held}
 use Rattle.byte_strings.specs.Text.{text_of}
-use Rattle.steps.specs.Meaning.{Str}
 
 -- rows past the last are not there
 pub first_rows : {A : Type 0} (xs : List A) (count : ℕ) → take (min count (length xs)) xs ≡ take count xs

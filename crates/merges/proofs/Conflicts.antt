@@ -1,5 +1,5 @@
 -- When a join of two sheets is refused as a conflict. Assumes the laws of a step system.
-use Rattle.std.proofs.Common.{◌≡◌, ℕ, ◌<◌, ◌≤◌, ltb, ◌⊎◌, ◌↔◌, List, map, length, get_or, take, Some, None, Ok, Err, sym, refl, ap, ◌∙◌, subst, ap₂, inl, inr, arith}
+use Rattle.std.proofs.Common.{◌≡◌, ℕ, ◌<◌, ◌≤◌, ltb, ◌⊎◌, ◌↔◌, List, map, length, get_or, take, Some, None, Ok, Err, sym, ap, ◌∙◌, subst, ap₂, inl, inr, arith}
 use Rattle.std.proofs.lemmas.List.{get_or_past}
 use Rattle.std.proofs.lemmas.Bool.{cases_lt, cond-true, cond-false, lt-ltb, le-ltb}
 use Rattle.steps.specs.Meaning.{Str, Transitions, Independence}
@@ -16,14 +16,14 @@ use Rattle.bench.specs.Replay.{end_told}
 use Rattle.bench.specs.Calls.{Outcome}
 use Rattle.bench.specs.Join as join_of
 use Rattle.bench.specs.Table.{page_at}
-use Rattle.merges.specs.History.{Sheet, sheet_at}
+use Rattle.merges.specs.History.{sheet_at}
 use Rattle.merges.specs.History.Sheet.{holds}
 use Rattle.merges.specs.History.CallView.{join}
 use Rattle.merges.specs.History.AnswerView.{refused}
 use Rattle.merges.specs.Views.{page_view}
 use Rattle.merges.specs.Told.{outcome, answer_of, answer_told}
 use Rattle.merges.proofs.Replays.{replayed_run}
-use Rattle.merges.proofs.Sound.{Sound, AllSound, blank_or_open, view_blank, view_open, sheet_view}
+use Rattle.merges.proofs.Sound.{AllSound, blank_or_open, view_blank, view_open, sheet_view}
 use Rattle.merges.proofs.Joining.{conflict_told}
 
 -- a sheet is there, or there is none of that number

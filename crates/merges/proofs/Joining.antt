@@ -1,5 +1,5 @@
 -- A join of one page into another. Assumes the laws of a step system.
-use Rattle.std.proofs.Common.{◌≡◌, ℕ, ◌+◌, ◌-◌, ◌<◌, ◌≤◌, Bool, true, false, cond, ◌⊎◌, ◌↔◌, List, [], ◌∷◌, ◌++◌, length, take, Some, None, Ok, Err, Option, Result, sym, refl, ap, ◌∙◌, subst, inl, inr, arith}
+use Rattle.std.proofs.Common.{◌≡◌, ℕ, ◌+◌, ◌-◌, ◌<◌, ◌≤◌, Bool, true, false, ◌⊎◌, ◌↔◌, List, ◌++◌, length, take, Some, None, Ok, Err, Option, Result, sym, refl, ap, ◌∙◌, subst, inl, inr, arith}
 use Rattle.std.proofs.lemmas.Slice.Eq.{bytes_eq-Decides}
 use Rattle.std.proofs.lemmas.List.{length-append, length-take-le}
 use Rattle.std.proofs.lemmas.Bool.{cases_lt, both_ways}
@@ -39,7 +39,7 @@ use Rattle.merges.specs.History.Reason.{no_sheet, no_other, nothing_to_join_to, 
 use Rattle.merges.specs.History.Happens.{joins}
 use Rattle.merges.specs.Views.{page_view}
 use Rattle.merges.proofs.Replays.{replayed_start, replayed_run}
-use Rattle.merges.proofs.Paths.{Path, TooLong, path_append, replayed_path, path_replayed, path_run, path_steps, path_short, led_path, led_too_long}
+use Rattle.merges.proofs.Paths.{Path, path_append, replayed_path, path_replayed, path_run, path_steps, path_short, led_path, led_too_long}
 use Rattle.merges.proofs.Merging.{joins_short, merged_opposite, written_front, written_long}
 use Rattle.merges.proofs.Sound.{Sound, Stands, blank_or_open, blank_not_open, view_blank, view_open}
 use Rattle.merges.proofs.Verdict.{Verdict}

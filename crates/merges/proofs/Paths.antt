@@ -1,18 +1,17 @@
 -- Runs all of whose states and steps are within the limits, as a replay goes along them. Assumes the laws of a step system where it says so.
-use Rattle.std.proofs.Common.{◌≡◌, ℕ, zero, suc, ◌+◌, ◌<◌, ◌≤◌, Bool, true, false, cond, leb, ◌⊎◌, List, [], ◌∷◌, ◌++◌, length, take, Some, None, Ok, Err, Option, Result, sym, refl, ap, ◌∙◌, subst, inl, inr, arith}
+use Rattle.std.proofs.Common.{◌≡◌, ℕ, zero, suc, ◌+◌, ◌<◌, ◌≤◌, leb, ◌⊎◌, List, [], ◌∷◌, ◌++◌, length, take, Some, None, Ok, Err, Option, Result, sym, refl, ap, ◌∙◌, subst, inl, inr, arith}
 use Rattle.std.proofs.lemmas.Bool.{cond-true, cond-false, le-leb, lt-leb, cases_lt}
 use Rattle.steps.specs.declared.fault.MaskFault.{MaskFault}
 use Rattle.steps.specs.declared.fault.MaskFault.TheVariants.{Inner}
 use Rattle.steps.specs.declared.fault.SystemFault.TheVariants.{NoState, StateTooLong}
 use Rattle.steps.specs.Meaning.{Str, Transitions, Independence}
 use Rattle.steps.specs.Laws.{Laws}
-use Rattle.steps.specs.Told.{first, step_refused, step_hidden, state_refused, moved, next_told, told_length}
+use Rattle.steps.specs.Told.{first, step_hidden, state_refused, moved, next_told, told_length}
 use Rattle.steps.proofs.Answered.{ok_not_err, next_ok, step_shaped, step_shown}
 use Rattle.runs.specs.Run.{Run}
 use Rattle.runs.specs.Run.Run.{stays, goes}
-use Rattle.runs.proofs.Runs.{run_none, run_end_unique}
+use Rattle.runs.proofs.Runs.{run_none}
 use Rattle.joins.specs.Steps.{ShortStep, ShortSteps}
-use Rattle.bench.specs.declared.fault.BenchFault.{BenchFault}
 use Rattle.bench.specs.declared.fault.BenchFault.TheVariants.{Stopped}
 use Rattle.bench.specs.Replay.{followed, replayed}
 use Rattle.bench.specs.Join.{led}

@@ -9,8 +9,7 @@ use Rattle.bench.specs.Table.{page_at}
 use Rattle.bench.specs.declared.sheet.Standing.TheVariants.{Blank, Open}
 use Rattle.bench.specs.Page.{Page, steps_of, blank_page}
 use Rattle.bench.specs.Replay.{end_told}
-use Rattle.merges.specs.History.{CallView, AnswerView, sheet_at, Happens, Moment, History, Promise, IsRun, AllRuns}
-use Rattle.merges.specs.History.Sheet.{holds}
+use Rattle.merges.specs.History.{CallView, AnswerView, Happens, Moment, History, Promise, IsRun, AllRuns}
 use Rattle.merges.specs.History.AnswerView.{joined, refused}
 use Rattle.merges.specs.History.CallView.{open_sheet, add, swap, withdraw, join}
 use Rattle.merges.specs.History.History.{ends_here, goes_on}

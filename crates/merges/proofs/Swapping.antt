@@ -1,6 +1,6 @@
 -- A swap on one page. Assumes the laws of a step system.
-use Rattle.std.proofs.Common.{◌≡◌, ℕ, ◌+◌, ◌-◌, ◌<◌, ◌≤◌, Bool, true, false, cond, ◌&&◌, ltb, leb, ◌⊎◌, List, [], ◌∷◌, ◌++◌, length, get_or, take, drop, set, Some, None, Ok, Err, Option, Result, sym, refl, ap, ◌∙◌, subst, ap₂, inl, inr, arith}
-use Rattle.std.proofs.lemmas.List.{length-set, length-take, length-take-le, get_or-take, take-take}
+use Rattle.std.proofs.Common.{◌≡◌, ℕ, ◌+◌, ◌-◌, ◌<◌, ◌≤◌, leb, ◌⊎◌, List, [], ◌∷◌, ◌++◌, length, get_or, take, drop, set, Some, None, Ok, Err, Option, sym, refl, ap, ◌∙◌, subst, ap₂, inl, inr, arith}
+use Rattle.std.proofs.lemmas.List.{length-set, length-take-le}
 use Rattle.std.proofs.lemmas.Bool.{cases_lt, cases_eq, cond-true, cond-false, le-leb, lt-leb}
 use Rattle.steps.specs.declared.fault.MaskFault.{MaskFault}
 use Rattle.steps.specs.declared.fault.MaskFault.TheVariants.{Inner}
@@ -14,7 +14,7 @@ use Rattle.runs.specs.Exchange.{Exchange}
 use Rattle.runs.specs.Exchange.Exchange.{here}
 use Rattle.runs.proofs.Runs.{run_end_unique}
 use Rattle.runs.proofs.Exchange.{exchange_sym, exchange_behind, exchanged_one, extends_exchanged}
-use Rattle.joins.specs.Steps.{ShortStep, ShortSteps}
+use Rattle.joins.specs.Steps.{ShortStep}
 use Rattle.joins.specs.Exchange.{Pair, turned, behind, exchanged_told}
 use Rattle.joins.proofs.Asking.{left_short}
 use Rattle.bench.specs.declared.fault.BenchFault.{BenchFault}
@@ -33,8 +33,8 @@ use Rattle.merges.specs.History.Reason.{no_sheet, nothing_to_swap, no_neighbours
 use Rattle.merges.specs.History.Reason.{swapped_too_long as step_over}
 use Rattle.merges.specs.History.Happens.{swaps}
 use Rattle.merges.specs.Views.{page_view}
-use Rattle.merges.proofs.Replays.{replayed_start, replayed_run}
-use Rattle.merges.proofs.Paths.{Path, path_append, path_split, replayed_path, path_replayed, path_run, path_steps, next_within, next_over, next_state}
+use Rattle.merges.proofs.Replays.{replayed_start}
+use Rattle.merges.proofs.Paths.{Path, path_append, path_split, replayed_path, path_replayed, path_run, next_within, next_over, next_state}
 use Rattle.merges.proofs.Paths.Path.{along}
 use Rattle.merges.proofs.Neighbours.{split_two, split_other, front_long, two_at}
 use Rattle.merges.proofs.Sound.{Sound, blank_or_open, blank_not_open, view_blank, view_open}

@@ -1,8 +1,8 @@
 -- What comes of an outcome that was answered. Assumes nothing.
-use Rattle.std.proofs.Common.{◌≡◌, ℕ, ◌-◌, ◌≤◌, List, [], ◌∷◌, ◌++◌, length, take, drop, replicate, Ok, Err, Result, sym, refl, ap, ◌∙◌, arith, length-take}
+use Rattle.std.proofs.Common.{◌≡◌, ℕ, ◌-◌, ◌≤◌, List, ◌++◌, length, take, drop, Ok, Err, Result, sym, refl, ap, ◌∙◌, arith, length-take}
 use Rattle.std.proofs.lemmas.List.{take_at, append_assoc, take-append-drop, drop-append-le, length-take-le}
 use Rattle.byte_strings.specs.Buffer.{Str, over, count, kept}
-use Rattle.steps.proofs.Answered.{counted, not_counted, ok_not_err}
+use Rattle.steps.proofs.Answered.{counted, ok_not_err}
 use Rattle.bench.specs.declared.fault.BenchFault.{BenchFault}
 use Rattle.steps.specs.Meaning.{Transitions}
 use Rattle.bench.specs.Page.{Page}

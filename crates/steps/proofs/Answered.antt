@@ -3,10 +3,10 @@ use Rattle.std.proofs.Common.{◌≡◌, ℕ, ◌≤◌, min, Bool, true, false,
 use Rattle.std.proofs.lemmas.Bool.{leb-true}
 use Rattle.steps.specs.declared.fault.MaskFault.{MaskFault}
 use Rattle.steps.specs.declared.fault.MaskFault.TheVariants.{Masked, Inner}
-use Rattle.steps.specs.declared.fault.SystemFault.TheVariants.{NoState, NoStep, StateTooLong}
+use Rattle.steps.specs.declared.fault.SystemFault.TheVariants.{NoStep, StateTooLong}
 use Rattle.steps.specs.Meaning.{Str, Transitions}
 use Rattle.byte_strings.specs.Buffer.{count}
-use Rattle.steps.specs.Told.{first, state_refused, step_refused, step_hidden, state_fits, moved, state_told, label_told, next_told, both_told, told_length}
+use Rattle.steps.specs.Told.{first, step_refused, step_hidden, state_fits, moved, state_told, label_told, next_told, both_told, told_length}
 
 -- a value is not a refusal
 pub ok_not_err : {A F : Type 0} {B : Type 0} (a : A) (f : F) → ◌≡◌ {A = Result A F} (Ok a) (Err f) → B

@@ -1,4 +1,4 @@
-use Rattle.std.proofs.Common.{◌≡◌, ◌≤◌, map, length, ap, ◌∙◌}
+use Rattle.std.proofs.Common.{◌≤◌, map, length, ap, ◌∙◌}
 use Rattle.std.proofs.lemmas.List.{length-map}
 use Rattle.byte_strings.specs.Text.{text_of}
 use Rattle.joins.proofs.Carrying.{read_at}

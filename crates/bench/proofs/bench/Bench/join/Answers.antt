@@ -1,4 +1,4 @@
-use Rattle.std.proofs.Common.{◌≡◌, length, get_or, sym, ap, ◌∙◌, subst, arith}
+use Rattle.std.proofs.Common.{◌≡◌, length, get_or, sym, ap, ◌∙◌, arith}
 use Rattle.bench.specs.Page.{page_of}
 use Rattle.bench.specs.Calls.{answered, after}
 use Rattle.bench.specs.Join.{joined}

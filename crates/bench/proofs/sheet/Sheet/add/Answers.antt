@@ -2,9 +2,8 @@ use Rattle.std.proofs.Common.{◌≡◌, ℕ, ◌+◌, List, length, Ok, Err, sy
 use Rattle.std.proofs.lemmas.Result.{err_from_is_err_and}
 use Rattle.std.proofs.lemmas.Bool.{false≢true}
 use Rattle.byte_strings.specs.Buffer.{count, kept}
-use Rattle.steps.specs.Told.{next_told}
 use Rattle.steps.proofs.Answered.{counted, not_counted}
-use Rattle.bench.specs.declared.fault.BenchFault.TheVariants.{WrongStanding, System, Full}
+use Rattle.bench.specs.declared.fault.BenchFault.TheVariants.{WrongStanding}
 use Rattle.byte_strings.specs.Text.{text_of}
 use Rattle.steps.specs.Meaning.{Str}
 use Rattle.bench.specs.declared.sheet.Standing.TheVariants.{Open}

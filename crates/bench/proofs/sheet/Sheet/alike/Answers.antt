@@ -1,4 +1,4 @@
-use Rattle.std.proofs.Common.{◌≡◌, cond, Ok, Err, sym, ap, ◌∙◌}
+use Rattle.std.proofs.Common.{cond, Ok, Err, sym, ap, ◌∙◌}
 use Rattle.std.proofs.lemmas.Slice.Eq.{slice_eq-Decides}
 use Rattle.byte_strings.specs.Text.{text_of}
 use Rattle.bench.specs.declared.fault.BenchFault.TheVariants.{StartsDiffer}

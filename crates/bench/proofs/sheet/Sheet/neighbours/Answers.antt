@@ -1,4 +1,4 @@
-use Rattle.std.proofs.Common.{◌≡◌, ◌-◌, ◌<◌, [], length, sym, ◌∙◌, ap₂, arith}
+use Rattle.std.proofs.Common.{◌-◌, [], sym, ◌∙◌, ap₂, arith}
 use Rattle.std.proofs.lemmas.List.{get_or-map}
 use Rattle.byte_strings.specs.Text.{text_of}
 use Rattle.joins.specs.Exchange.{exchanged_told}

@@ -1,4 +1,4 @@
-use Rattle.std.proofs.Common.{◌≡◌, true, length, is_ok, Ok, Err, sym, ap, ◌∙◌, arith}
+use Rattle.std.proofs.Common.{◌≡◌, length, is_ok, Ok, Err, sym, ap, ◌∙◌, arith}
 use Rattle.std.proofs.lemmas.Result.{err_from_is_err_and, IfOk-from_err}
 use Rattle.byte_strings.specs.Buffer.{count, kept}
 use Rattle.bench.specs.declared.fault.BenchFault.TheVariants.{WrongStanding, TextTooLong}

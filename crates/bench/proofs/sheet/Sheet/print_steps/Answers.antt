@@ -1,8 +1,6 @@
-use Rattle.std.proofs.Common.{◌≡◌, ◌+◌, ◌<◌, ◌≤◌, [], length, take, sym, ap, ◌∙◌, arith, length-take, get_or-take}
-use Rattle.byte_strings.specs.Buffer.{over}
+use Rattle.std.proofs.Common.{◌+◌, ◌<◌, [], length, take, sym, ap, ◌∙◌, arith, length-take, get_or-take}
 use Rattle.byte_strings.proofs.Over.{length_over}
 use Rattle.steps.proofs.Answered.{ok_not_err}
-use Rattle.byte_strings.specs.Text.{text_of}
 use Rattle.bench.specs.Page.{page_of, steps_of}
 use Rattle.bench.specs.Print.{step_lines}
 use Rattle.bench.proofs.Printing.{lines_more, lines_within, length_step_lines, lines_next, label_is, all_shown}

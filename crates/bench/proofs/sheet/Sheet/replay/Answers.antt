@@ -1,4 +1,4 @@
-use Rattle.std.proofs.Common.{◌≡◌, ◌≤◌, [], length, get_or, take, Ok, sym, ◌∙◌, arith, length-take, get_or-take}
+use Rattle.std.proofs.Common.{[], take, sym, ◌∙◌, arith, length-take, get_or-take}
 use Rattle.byte_strings.specs.Text.{text_of}
 use Rattle.bench.specs.Page.{page_of}
 use Rattle.bench.proofs.Following.{goes_on, stops, arrives, starts}

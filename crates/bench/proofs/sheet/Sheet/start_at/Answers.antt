@@ -1,7 +1,7 @@
 use Rattle.std.proofs.Common.{◌≡◌, List, Err, sym, refl, ap, ◌∙◌}
 use Rattle.std.proofs.lemmas.Result.{err_from_is_err_and}
 use Rattle.std.proofs.lemmas.Bool.{false≢true}
-use Rattle.bench.specs.declared.fault.BenchFault.TheVariants.{WrongStanding, System}
+use Rattle.bench.specs.declared.fault.BenchFault.TheVariants.{WrongStanding}
 use Rattle.steps.specs.Meaning.{Str}
 use Rattle.bench.specs.declared.sheet.Standing.TheVariants.{Open}
 use Rattle.byte_strings.specs.Text.{text_of}

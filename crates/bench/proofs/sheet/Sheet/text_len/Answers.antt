@@ -1,4 +1,4 @@
-use Rattle.std.proofs.Common.{◌≡◌, length, sym, ap, ◌∙◌, arith}
+use Rattle.std.proofs.Common.{length, ap, arith}
 use Rattle.bench.specs.Page.{page_of}
 use Rattle.bench.proofs.Printing.{lines_more}
 use Rattle.bench.proofs.sheet.Sheet.text_len.Goals as goal

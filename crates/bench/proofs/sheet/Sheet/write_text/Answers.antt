@@ -1,4 +1,4 @@
-use Rattle.std.proofs.Common.{sym, refl, ap, ◌∙◌}
+use Rattle.std.proofs.Common.{refl}
 use Rattle.byte_strings.specs.Text.{text_of}
 use Rattle.bench.specs.Page.{page_of}
 use Rattle.bench.proofs.Printing.{text_written}
