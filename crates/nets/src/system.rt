@@ -1,16 +1,15 @@
 // The step system of a net: its states are markings, its steps the numbers of its events.
-ghost use Rattle.std.specs.Prelude.{◌≡◌, length};
+ghost use Rattle.std.specs.Prelude.{◌≡◌, length, Some};
 ghost use Rattle.nets.specs.Contents.{events_of};
 ghost use Rattle.nets.specs.Marking.{bytes_of};
 ghost use Rattle.nets.specs.System.{net_transitions, net_independence};
-ghost use Rattle.byte_strings.specs.Buffer.{count, kept};
-ghost use Rattle.steps.specs.Told.{state_fits};
+ghost use Rattle.byte_strings.specs.Buffer.{count, kept, count_some, kept_some};
+ghost use Rattle.steps.specs.Told.{state_fits, step_fits};
 ghost use Rattle.nets.specs.Laws.{net_laws};
 
 use crate::marking::read;
 use crate::net::Net;
 use byte_strings::buffer;
-use steps::answer::put_step;
 use steps::fault::{MaskFault, SystemFault};
 use steps::label::Label;
 use steps::system::StepSystem;
@@ -23,6 +22,18 @@ fn put_marking(marking: u64, out: &mut [u8]) -> Result<usize, MaskFault>
     match buffer::copy(&marking.to_be_bytes(), out) {
         Some(n) => Ok(n),
         None => Err(MaskFault::Inner(SystemFault::StateTooLong(8))),
+    }
+}
+
+// Writes a step of one byte over the front of the buffer, and answers its length.
+fn put_step(step: &[u8], out: &mut [u8]) -> Result<Option<usize>, MaskFault>
+    requires { length step.now ≡ 1 }
+    ensures answer { result ≡ count_some (step_fits (Some step.now) (length out.old)) }
+    ensures buffer { out.new ≡ kept_some (step_fits (Some step.now) (length out.old)) out.old }
+{
+    match buffer::copy(step, out) {
+        Some(n) => Ok(Some(n)),
+        None => Err(MaskFault::Inner(SystemFault::StepTooLong(1))),
     }
 }
 
