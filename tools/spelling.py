@@ -18,6 +18,8 @@ PARAMETERS = re.compile(r"[({]([^(){}:]*?)\s:\s")
 LET = re.compile(r"\blet (" + WORD + r")\b")
 LAMBDA = re.compile(r"λ ([^.]*)\.")
 ALIAS = re.compile(r"\bas (" + WORD + r")")
+# A name that port.py leaves half way.
+HALFWAY = {"Laid_out": "LaidOut"}
 # Local names in patterns.
 PATTERNS = {"bad-x", "bad-y", "hidden-x", "hidden-y", "length-told"}
 # Names that are brought in from outside the repository.
@@ -58,7 +60,7 @@ def main() -> None:
     crates = Path("crates")
     proofs = [p for p in sorted(crates.rglob("*.antt")) if "out" not in p.parts]
     names = declared([p.read_text() for p in proofs])
-    table = {name: spelled(name) for name in names}
+    table = {name: spelled(name) for name in names} | HALFWAY
     token = re.compile(r"[A-Za-z_][\w'≢≡]*(?:-[\w'≢≡]+)*")
     for path in proofs + sorted(crates.rglob("*.rt")) + sorted(crates.rglob("*.edit")):
         old = path.read_text()

@@ -5,7 +5,7 @@ use Rattle.std.proofs.lemmas.List.{append_assoc, append-nil, take_at, length-app
 use Rattle.std.proofs.lemmas.Bool.{le-leb, eq-eqb, cond_both, leb-true, leb-false, eqb-true, eqb-false}
 use Rattle.frame.specs.declared.fault.FrameFault.{FrameFault}
 use Rattle.frame.specs.declared.fault.FrameFault.TheVariants.{Malformed, BadSetup}
-use Rattle.frame.specs.Frames.{FrameView, setup_bytes, bytes_of, Laid_out, WithinRules, Accepted, Begins, frame_limit, event_limit}
+use Rattle.frame.specs.Frames.{FrameView, setup_bytes, bytes_of, LaidOut, WithinRules, Accepted, Begins, frame_limit, event_limit}
 use Rattle.frame.specs.Frames.FrameView.{setup, open_sheet, add, withdraw, release, reopen, print}
 use Rattle.frame.specs.Reading.{Layout, layout_told, rules_told, parts_told, setup_told, sheet_rest_told, sheet_told, bytes_told, frame_told}
 use Rattle.frame.specs.Format.{ReadsFrames, MalformedAt, PlacesMalformed, BadAt, PlacesBadSetups}
@@ -55,7 +55,7 @@ two_bytes call h (print sheet) t e = refl
 
 -- what an answer says of the bytes that were read
 abbrev Right : List ℕ → Result FrameView FrameFault → Type 0
-Right s (Ok f) = (bytes_of f ≡ s) × Laid_out f × WithinRules f
+Right s (Ok f) = (bytes_of f ≡ s) × LaidOut f × WithinRules f
 Right s (Err (Malformed p)) = MalformedAt s p
 Right s (Err (BadSetup p)) = BadAt s p
 
@@ -139,7 +139,7 @@ filled t h = positive (length t) (eqb-false _ _ h)
     positive : (n : ℕ) → (n ≡ 0 → ⊥) → 0 < n
     positive n no_zero = omega arith
 
-rules_right : (ps ns es : List ℕ) → Laid_out (setup ps ns es) → Right (bytes_of (setup ps ns es)) (rules_told ps ns es)
+rules_right : (ps ns es : List ℕ) → LaidOut (setup ps ns es) → Right (bytes_of (setup ps ns es)) (rules_told ps ns es)
 rules_right ps ns es l =
     cond_both (eqb (length ps) 0) _ _ (Right (bytes_of (setup ps ns es)))
     (λ no_pairs. cond_both (eqb (length ns) 0) _ _ (Right (bytes_of (setup ps ns es)))
@@ -153,13 +153,13 @@ rules_right ps ns es l =
     empty t h = nil_from_length t (eqb-true _ _ h)
 
     bad_names : ps ≡ [] → 0 < length ns → BadAt (bytes_of (setup ps ns es)) 3
-    bad_names p h = names ns es (ap (λ t. bytes_of (setup t ns es)) (sym p)) (subst (λ t. Laid_out (setup t ns es)) p l) h
+    bad_names p h = names ns es (ap (λ t. bytes_of (setup t ns es)) (sym p)) (subst (λ t. LaidOut (setup t ns es)) p l) h
 
     bad_events : ps ≡ [] → ns ≡ [] → 17 * event_limit < length es → BadAt (bytes_of (setup ps ns es)) 4
-    bad_events p n h = events es (ap (λ t. bytes_of (setup [] t es)) (sym n) ∙ ap (λ t. bytes_of (setup t ns es)) (sym p)) (subst (λ t. Laid_out (setup t ns es)) p l) h
+    bad_events p n h = events es (ap (λ t. bytes_of (setup [] t es)) (sym n) ∙ ap (λ t. bytes_of (setup t ns es)) (sym p)) (subst (λ t. LaidOut (setup t ns es)) p l) h
 
 -- bytes behind the parts of a setup
-behind_right : (ps ns es t : List ℕ) (p : ℕ) → Laid_out (setup ps ns es) → 0 < length t → p ≡ length (setup_bytes ps ns es) + 2 → MalformedAt (0xA0 ∷ 0x02 ∷ (setup_bytes ps ns es ++ t)) p
+behind_right : (ps ns es t : List ℕ) (p : ℕ) → LaidOut (setup ps ns es) → 0 < length t → p ≡ length (setup_bytes ps ns es) + 2 → MalformedAt (0xA0 ∷ 0x02 ∷ (setup_bytes ps ns es ++ t)) p
 behind_right ps ns es t p l some is = record {
   within = omega (arith, length-append (setup_bytes ps ns es) t);
   begins = (setup ps ns es, [], l, sym (append-nil _ ∙ take_at (bytes_of (setup ps ns es)) t p (omega arith)));
@@ -232,7 +232,7 @@ bytes_right (call ∷ rest) =
     }))))))))
 
 -- the bytes of an accepted frame are read as that frame
-accepted_read : (f : FrameView) → Laid_out f → WithinRules f → bytes_told (bytes_of f) ≡ Ok f
+accepted_read : (f : FrameView) → LaidOut f → WithinRules f → bytes_told (bytes_of f) ≡ Ok f
 accepted_read (setup ps ns es) l (p, n, few) =
     let built : layout_told (setup_bytes ps ns es) ≡ Some (laid ps ns es []) = ap layout_told (sym (append-nil (setup_bytes ps ns es))) ∙ layout_built ps ns es [] l in
     let no_pairs : eqb (length ps) 0 ≡ true = eq-eqb _ _ (ap length p) in

@@ -2,7 +2,7 @@
 use Rattle.std.proofs.Common.{◌≡◌, ℕ, ◌-◌, ◌*◌, ◌/◌, ◌<◌, Bool, true, false, cond, leb, List, [], ◌∷◌, ◌++◌, length, get_or, take, drop, replicate, Some, None, Option, sym, refl, ap, ◌∙◌, subst, mul_comm, mul-div_cancel, arith}
 use Rattle.std.proofs.lemmas.List.{append_assoc, append-nil, take_at, drop_at, take-append-drop, length-append, length-take-le, length-replicate}
 use Rattle.std.proofs.lemmas.Bool.{le-leb, leb-true, leb-false}
-use Rattle.frame.specs.Frames.{FrameView, counted, setup_bytes, bytes_of, Whole, Laid_out}
+use Rattle.frame.specs.Frames.{FrameView, counted, setup_bytes, bytes_of, Whole, LaidOut}
 use Rattle.frame.specs.Frames.FrameView.{setup, open_sheet, add, withdraw, release, reopen, print}
 use Rattle.frame.specs.Reading.{part_told, Layout, with_events, with_names, with_pairs, layout_told}
 use Rattle.frame.proofs.Parts.{held, never}
@@ -56,7 +56,7 @@ exact_1 items = omega arith
 abbrev pub laid : List ℕ → List ℕ → List ℕ → List ℕ → Layout
 laid ps ns es t = record { pairs = ps; names = ns; events = es; behind = t }
 
-pub layout_built : (ps ns es t : List ℕ) → Laid_out (setup ps ns es) → layout_told (setup_bytes ps ns es ++ t) ≡ Some (laid ps ns es t)
+pub layout_built : (ps ns es t : List ℕ) → LaidOut (setup ps ns es) → layout_told (setup_bytes ps ns es ++ t) ≡ Some (laid ps ns es t)
 layout_built ps ns es t (p, e) =
     let a : setup_bytes ps ns es ++ t ≡ counted 2 ps ++ (counted 1 ns ++ (counted 17 es ++ t)) = append_assoc (counted 2 ps) (counted 1 ns ++ counted 17 es) t ∙ ap (λ u. counted 2 ps ++ u) (append_assoc (counted 1 ns) (counted 17 es) t) in
     let one = part_built 2 ps (counted 1 ns ++ (counted 17 es ++ t)) (exact_2 ps p) in
@@ -66,8 +66,8 @@ layout_built ps ns es t (p, e) =
 
 -- what a layout tells of the bytes: they are the parts and the rest, or some parts go on from them
 abbrev pub Tells : List ℕ → Option Layout → Type 0
-Tells s (Some l) = Laid_out (setup l.pairs l.names l.events) × (s ≡ setup_bytes l.pairs l.names l.events ++ l.behind)
-Tells s None = (ps : List ℕ) × (ns : List ℕ) × (es : List ℕ) × (more : List ℕ) × Laid_out (setup ps ns es) × (setup_bytes ps ns es ≡ s ++ more)
+Tells s (Some l) = LaidOut (setup l.pairs l.names l.events) × (s ≡ setup_bytes l.pairs l.names l.events ++ l.behind)
+Tells s None = (ps : List ℕ) × (ns : List ℕ) × (es : List ℕ) × (more : List ℕ) × LaidOut (setup ps ns es) × (setup_bytes ps ns es ≡ s ++ more)
 
 none_17 : Whole 17 []
 none_17 = (0, refl)
@@ -103,7 +103,7 @@ pub layout_tells : (s : List ℕ) → Tells s (layout_told s)
 layout_tells s = tells_pairs s (part_told 2 s) refl
 
 -- the bytes of a setup that is laid out have a layout, with nothing behind
-has_layout : (f : FrameView) (s : List ℕ) → Laid_out f → bytes_of f ≡ 0xA0 ∷ 0x02 ∷ s → (l : Layout) × (layout_told s ≡ Some l) × (l.behind ≡ [])
+has_layout : (f : FrameView) (s : List ℕ) → LaidOut f → bytes_of f ≡ 0xA0 ∷ 0x02 ∷ s → (l : Layout) × (layout_told s ≡ Some l) × (l.behind ≡ [])
 has_layout (setup ps ns es) s l e =
     (laid ps ns es [], ap layout_told (sym (ap (drop 2) e) ∙ sym (append-nil (setup_bytes ps ns es))) ∙ layout_built ps ns es [] l, refl)
 has_layout (open_sheet sheet state) s l e = absurd (omega (arith, ap (λ t. get_or t 0 0) e))
@@ -113,13 +113,13 @@ has_layout (release sheet) s l e = absurd (omega (arith, ap (λ t. get_or t 0 0)
 has_layout (reopen sheet) s l e = absurd (omega (arith, ap (λ t. get_or t 0 0) e))
 has_layout (print sheet) s l e = absurd (omega (arith, ap (λ t. get_or t 0 0) e))
 
-pub no_layout : (f : FrameView) (s : List ℕ) → Laid_out f → bytes_of f ≡ 0xA0 ∷ 0x02 ∷ s → layout_told s ≡ None → ⊥
+pub no_layout : (f : FrameView) (s : List ℕ) → LaidOut f → bytes_of f ≡ 0xA0 ∷ 0x02 ∷ s → layout_told s ≡ None → ⊥
 no_layout f s l e none =
     let (found, is, empty) = has_layout f s l e in
     never (sym none ∙ is)
 
 -- no frame goes on behind the parts that its counts ask for
-pub ends : (ps ns es z : List ℕ) → Laid_out (setup ps ns es) → (f : FrameView) → Laid_out f → bytes_of f ≡ 0xA0 ∷ 0x02 ∷ (setup_bytes ps ns es ++ z) → z ≡ []
+pub ends : (ps ns es z : List ℕ) → LaidOut (setup ps ns es) → (f : FrameView) → LaidOut f → bytes_of f ≡ 0xA0 ∷ 0x02 ∷ (setup_bytes ps ns es ++ z) → z ≡ []
 ends ps ns es z l f l' e =
     let (found, is, empty) = has_layout f (setup_bytes ps ns es ++ z) l' e in
     ap (λ (p : Layout). p.behind) (held (sym (layout_built ps ns es z l) ∙ is)) ∙ empty

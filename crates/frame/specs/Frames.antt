@@ -34,14 +34,14 @@ abbrev pub Whole : ℕ → List ℕ → Type 0
 Whole size items = (n : ℕ) × (length items ≡ size * n)
 
 -- The parts of a setup are whole pairs, names and events, of any number.
-abbrev pub Laid_out : FrameView → Type 0
-Laid_out (setup pairs names events) = Whole 2 pairs × Whole 17 events
-Laid_out (open_sheet sheet state) = Unit {0}
-Laid_out (add sheet step) = Unit {0}
-Laid_out (withdraw sheet) = Unit {0}
-Laid_out (release sheet) = Unit {0}
-Laid_out (reopen sheet) = Unit {0}
-Laid_out (print sheet) = Unit {0}
+abbrev pub LaidOut : FrameView → Type 0
+LaidOut (setup pairs names events) = Whole 2 pairs × Whole 17 events
+LaidOut (open_sheet sheet state) = Unit {0}
+LaidOut (add sheet step) = Unit {0}
+LaidOut (withdraw sheet) = Unit {0}
+LaidOut (release sheet) = Unit {0}
+LaidOut (reopen sheet) = Unit {0}
+LaidOut (print sheet) = Unit {0}
 
 -- the most bytes of a frame
 abbrev pub frame_limit : ℕ
@@ -59,8 +59,8 @@ WithinRules (print sheet) = Unit {0}
 
 -- A frame that is accepted: laid out, within the rules and the limit.
 abbrev pub Accepted : FrameView → Type 0
-Accepted f = Laid_out f × WithinRules f × (length (bytes_of f) ≤ frame_limit)
+Accepted f = LaidOut f × WithinRules f × (length (bytes_of f) ≤ frame_limit)
 
 -- A string begins a frame: some frame goes on from it.
 abbrev pub Begins : List ℕ → Type 0
-Begins s = (f : FrameView) × (more : List ℕ) × Laid_out f × (bytes_of f ≡ s ++ more)
+Begins s = (f : FrameView) × (more : List ℕ) × LaidOut f × (bytes_of f ≡ s ++ more)
