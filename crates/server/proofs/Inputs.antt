@@ -1,11 +1,10 @@
 -- The beginning of a line that is kept answers for the whole. Assumes nothing.
-use Rattle.std.proofs.Common.{◌≡◌, ℕ, zero, suc, ◌+◌, ◌*◌, ◌<◌, ◌≤◌, Bool, true, false, cond, eqb, leb, List, [], ◌∷◌, ◌++◌, length, take, Some, None, Ok, Err, Option, Result, sym, refl, ap, ◌∙◌, ⊎_elim, arith, length-take}
+use Rattle.std.proofs.Common.{◌≡◌, ℕ, zero, suc, ◌+◌, ◌*◌, ◌<◌, ◌≤◌, Bool, true, false, cond, eqb, leb, [], ◌∷◌, ◌++◌, length, take, Some, None, Ok, Err, Option, sym, refl, ap, ◌∙◌, ⊎_elim, arith, length-take}
 use Rattle.std.proofs.lemmas.List.{take_all, take-append-le, length-take-le}
-use Rattle.std.proofs.lemmas.Bool.{cases_lt, ne_eqb, eq-eqb, eqb-true, eqb-false, cond-true, cond-false}
+use Rattle.std.proofs.lemmas.Bool.{cases_lt, ne_eqb, eq-eqb, cond-true, cond-false}
 use Rattle.byte_strings.specs.Buffer.{Str}
 use Rattle.hexadecimal.specs.Digits.{byte_of}
 use Rattle.hexadecimal.specs.Hex.{before, sound, all_or_count, read_told}
-use Rattle.hexadecimal.proofs.Text.{sound_half}
 use Rattle.steps.proofs.Answered.{some_not_none}
 use Rattle.server.specs.Text.{text_limit}
 use Rattle.server.specs.Answer.{Model, Reply, read_reply, line_reply, reply_length, reply_buffer, reply_model}

@@ -1,5 +1,5 @@
 -- Answer lines that fit the buffer. Assumes nothing.
-use Rattle.std.proofs.Common.{◌≡◌, ℕ, ◌+◌, ◌*◌, ◌≤◌, List, [], ◌∷◌, ◌++◌, length, Some, Option, sym, refl, ap, ◌∙◌, arith}
+use Rattle.std.proofs.Common.{◌≡◌, ℕ, ◌+◌, ◌*◌, ◌≤◌, ◌++◌, length, Some, sym, ap, ◌∙◌, arith}
 use Rattle.byte_strings.specs.Buffer.{Str, over, copied}
 use Rattle.byte_strings.proofs.Over.{copied_over}
 use Rattle.hexadecimal.specs.Line.{line}

@@ -1,9 +1,9 @@
 -- What a line that was read gives. Assumes nothing.
-use Rattle.std.proofs.Common.{◌≡◌, ℕ, ◌-◌, ◌*◌, ◌<◌, ◌≤◌, Bool, true, false, cond, eqb, leb, List, [], ◌∷◌, ◌++◌, length, take, drop, Some, None, Ok, Err, Result, sym, refl, ap, ◌∙◌, arith, length-take}
+use Rattle.std.proofs.Common.{◌≡◌, ℕ, ◌-◌, ◌*◌, ◌≤◌, Bool, true, false, cond, eqb, leb, length, take, drop, Some, Ok, Err, sym, refl, ap, ◌∙◌, arith, length-take}
 use Rattle.std.proofs.lemmas.List.{take_at}
 use Rattle.std.proofs.lemmas.Bool.{cond-true, le-leb}
 use Rattle.byte_strings.specs.Buffer.{Str, over, count}
-use Rattle.hexadecimal.specs.Hex.{sound, all_or_count, read_told}
+use Rattle.hexadecimal.specs.Hex.{sound, read_told}
 use Rattle.steps.proofs.Answered.{ok_not_err}
 use Rattle.server.specs.Text.{text_limit}
 use Rattle.server.specs.Answer.{Model, Reply, reply_length, reply_buffer, reply_model}

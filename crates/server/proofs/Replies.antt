@@ -1,8 +1,8 @@
 -- What comes of an outcome that was answered. Assumes nothing.
-use Rattle.std.proofs.Common.{◌≡◌, ℕ, ◌-◌, ◌≤◌, List, [], ◌∷◌, ◌++◌, length, take, drop, replicate, Ok, Err, Result, sym, refl, ap, ◌∙◌, arith, length-take}
+use Rattle.std.proofs.Common.{◌≡◌, ℕ, ◌-◌, ◌≤◌, List, ◌++◌, length, take, drop, Ok, Err, Result, sym, refl, ap, ◌∙◌, arith, length-take}
 use Rattle.std.proofs.lemmas.List.{take_at, append_assoc, take-append-drop, drop-append-le, length-take-le}
 use Rattle.byte_strings.specs.Buffer.{Str, over, count, kept}
-use Rattle.steps.proofs.Answered.{counted, not_counted, ok_not_err}
+use Rattle.steps.proofs.Answered.{counted, ok_not_err}
 use Rattle.bench.specs.declared.fault.BenchFault.{BenchFault}
 use Rattle.steps.specs.Meaning.{Transitions}
 use Rattle.bench.specs.Page.{Page}
@@ -18,10 +18,6 @@ not_accepted (Err g) f e = ap Err (cc)
 pub not_answered : (o : Outcome) (f : BenchFault) → Err f ≡ count (answered o) → o ≡ Err f
 not_answered (Ok d) f e = ok_not_err (length d.answer) f (sym e)
 not_answered (Err g) f e = ap Err (cc)
-
-pub not_joined : (o : Outcome) (f : BenchFault) → Err f ≡ answered o → o ≡ Err f
-not_joined (Ok d) f e = ok_not_err d.answer f (sym e)
-not_joined (Err g) f e = ap Err (cc)
 
 -- the string at the front of a buffer that held nothing before
 pub answer_is : (r : Result Str BenchFault) (n : ℕ) (now old : Str) → Ok n ≡ count r → now ≡ kept r old → (w : Str) × (r ≡ Ok w) × (take (n - 0) now ≡ w)

@@ -1,5 +1,5 @@
 -- A setup gives all its events, or the first that is not sound. Assumes nothing.
-use Rattle.std.proofs.Common.{◌≡◌, ℕ, zero, suc, ◌+◌, ◌<◌, cond, ltb, ◌⊎◌, List, [], ◌∷◌, ◌++◌, length, get_or, Some, None, Ok, Err, Option, Result, sym, refl, ap, ◌∙◌, subst, inl, inr, ⊎_elim, arith, length-append}
+use Rattle.std.proofs.Common.{◌≡◌, ℕ, zero, suc, ◌+◌, ◌<◌, ltb, List, [], ◌∷◌, ◌++◌, length, Some, None, Ok, Err, Option, Result, sym, refl, ap, ◌∙◌, subst, inl, inr, ⊎_elim, arith}
 use Rattle.std.proofs.lemmas.List.{get_or_append_left, get_or_push, length_push}
 use Rattle.std.proofs.lemmas.Bool.{cond-true, lt-ltb, cases_lt}
 use Rattle.byte_strings.specs.Buffer.{Str}
@@ -10,7 +10,7 @@ use Rattle.nets.specs.Events.{add_fault, event_fault}
 use Rattle.frame.specs.declared.fault.FrameFault.{FrameFault}
 use Rattle.frame.specs.declared.fault.FrameFault.TheVariants.{BadSetup}
 use Rattle.frame.specs.Events.{event_told, event_place}
-use Rattle.server.specs.Setup.{built, net_told, Spelled, Gives, SetupsGiveNets}
+use Rattle.server.specs.Setup.{built, Spelled, Gives, SetupsGiveNets}
 use Rattle.server.specs.Setup.Gives.{whole, broken}
 
 spelled_more : (bytes : Str) (es : List Event) (e : Event) → Spelled bytes es → event_told bytes (length es) ≡ Some e → event_fault e ≡ None → Spelled bytes (es ++ e ∷ [])

@@ -1,5 +1,5 @@
 -- What a byte of input does, where l is the whole line so far, and what the end of the input does. Assumes nothing.
-use Rattle.std.specs.Prelude.{◌≡◌, ℕ, cond, [], ◌∷◌, ◌++◌, length, take, Some, None, Option, ◌==◌, nat_le}
+use Rattle.std.specs.Prelude.{◌≡◌, ℕ, cond, [], ◌∷◌, ◌++◌, take, Some, Option, ◌==◌, nat_le}
 use Rattle.byte_strings.specs.Buffer.{Str}
 use Rattle.server.specs.Text.{text_limit}
 use Rattle.server.specs.Answer.{Model, line_reply, reply_length, reply_buffer, reply_model}

@@ -1,7 +1,7 @@
 // The calls of frames, each on the net and the bench, with its answer as text.
 ghost use Rattle.std.specs.Prelude.{◌≡◌, ◌≤◌, length};
 ghost use Rattle.byte_strings.specs.Buffer.{over};
-ghost use Rattle.frame.specs.Frames.FrameView.{open_sheet, add, swap, withdraw, join, release, reopen, print};
+ghost use Rattle.frame.specs.Frames.FrameView.{open_sheet, add, withdraw, release, reopen, print};
 ghost use Rattle.frame.specs.Reading.{setup_view, frame_view};
 ghost use Rattle.server.specs.Text.{text_limit};
 ghost use Rattle.server.specs.Answer.{model_of, frame_reply};
@@ -24,9 +24,7 @@ impl Server {
             Frame::Setup(setup) => self.set_up(setup, out),
             Frame::Open { sheet, state } => self.start(sheet, state, out),
             Frame::Add { sheet, step } => self.add(sheet, step, out),
-            Frame::Swap { sheet, place } => self.swap(sheet, place, out),
             Frame::Withdraw { sheet } => self.withdraw(sheet, out),
-            Frame::Join { sheet, other } => self.join(sheet, other, out),
             Frame::Release { sheet } => self.release(sheet, out),
             Frame::Reopen { sheet } => self.reopen(sheet, out),
             Frame::Print { sheet } => self.print(sheet, out),
@@ -79,20 +77,6 @@ impl Server {
         }
     }
 
-    // Exchanges two neighbours.
-    fn swap(&mut self, sheet: u8, place: u8, out: &mut [u8]) -> usize
-        requires { text_limit ≤ length out.old }
-        ensures answer { result ≡ length (frame_reply (model_of self.old) (swap sheet place)).text }
-        ensures buffer { out.new ≡ over (frame_reply (model_of self.old) (swap sheet place)).text out.old }
-        ensures model { model_of self.new ≡ (frame_reply (model_of self.old) (swap sheet place)).model }
-        ensures bound { result ≤ 5222 }
-    {
-        match self.bench.swap(&self.net, sheet, place) {
-            Ok(()) => text::accept(&[], out),
-            Err(fault) => text::refuse_call(fault, out),
-        }
-    }
-
     // Takes the last step away.
     fn withdraw(&mut self, sheet: u8, out: &mut [u8]) -> usize
         requires { text_limit ≤ length out.old }
@@ -104,20 +88,6 @@ impl Server {
         let mut end = [0u8; 256];
         match self.bench.withdraw(&self.net, sheet, &mut end) {
             Ok(n) => text::accept(&end[0..n], out),
-            Err(fault) => text::refuse_call(fault, out),
-        }
-    }
-
-    // Joins a sheet into another.
-    fn join(&mut self, sheet: u8, other: u8, out: &mut [u8]) -> usize
-        requires { text_limit ≤ length out.old }
-        ensures answer { result ≡ length (frame_reply (model_of self.old) (join sheet other)).text }
-        ensures buffer { out.new ≡ over (frame_reply (model_of self.old) (join sheet other)).text out.old }
-        ensures model { model_of self.new ≡ (frame_reply (model_of self.old) (join sheet other)).model }
-        ensures bound { result ≤ 5222 }
-    {
-        match self.bench.join(&self.net, sheet, other) {
-            Ok((len, shared)) => text::accept(&[len, shared], out),
             Err(fault) => text::refuse_call(fault, out),
         }
     }

@@ -3,7 +3,7 @@ use Rattle.byte_strings.specs.Buffer.{over}
 use Rattle.bench.specs.Calls.{answered, added}
 use Rattle.bench.specs.Table.{on_sheet}
 use Rattle.server.specs.Text.{call_text}
-use Rattle.server.specs.Answer.{Model, model_of, system_of}
+use Rattle.server.specs.Answer.{model_of, system_of}
 use Rattle.server.proofs.Replies.{not_answered}
 use Rattle.server.proofs.server.Server.add.Goals as goal
 

@@ -1,6 +1,5 @@
-use Rattle.std.proofs.Common.{◌≡◌, ◌-◌, ◌≤◌, length, take, replicate, sym, refl, ap, ◌∙◌, arith, rules}
+use Rattle.std.proofs.Common.{◌≡◌, ◌-◌, ◌≤◌, length, take, sym, refl, ap, ◌∙◌, arith, rules}
 use Rattle.frame.specs.Reading.{frame_told}
-use Rattle.frame.specs.Refusals.{frame_refusal}
 use Rattle.frame.specs.declared.fault.FrameFault.TheVariants.{Malformed}
 use Rattle.byte_strings.specs.Buffer.{over}
 use Rattle.server.specs.Text.{refusal_line}

@@ -3,7 +3,7 @@ use Rattle.byte_strings.specs.Buffer.{over}
 use Rattle.bench.specs.Calls.{answered, released}
 use Rattle.bench.specs.Table.{on_sheet}
 use Rattle.server.specs.Text.{call_text}
-use Rattle.server.specs.Answer.{Model, model_of, system_of}
+use Rattle.server.specs.Answer.{model_of, system_of}
 use Rattle.server.proofs.Replies.{not_accepted}
 use Rattle.server.proofs.server.Server.release.Goals as goal
 

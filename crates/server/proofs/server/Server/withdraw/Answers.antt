@@ -4,7 +4,7 @@ use Rattle.hexadecimal.specs.Line.{line}
 use Rattle.bench.specs.Calls.{answered, withdrawn}
 use Rattle.bench.specs.Table.{on_sheet}
 use Rattle.server.specs.Text.{call_text}
-use Rattle.server.specs.Answer.{Model, model_of, system_of}
+use Rattle.server.specs.Answer.{model_of, system_of}
 use Rattle.server.proofs.Replies.{not_answered, answer_is}
 use Rattle.server.proofs.server.Server.withdraw.Goals as goal
 

@@ -1,4 +1,4 @@
-use Rattle.std.proofs.Common.{◌≡◌, [], ◌∷◌, ◌++◌, length, take, sym, refl, ap, ◌∙◌, arith}
+use Rattle.std.proofs.Common.{[], ◌∷◌, ◌++◌, length, take, ap, ◌∙◌, arith}
 use Rattle.server.specs.Answer.{model_of, line_reply, reply_length, reply_buffer, reply_model}
 use Rattle.server.specs.Session.{line_limit}
 use Rattle.server.proofs.Inputs.{going, kept_on, ends_length, ends_buffer, ends_model, ends_line, stays_line}
