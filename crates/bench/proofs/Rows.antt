@@ -5,7 +5,7 @@ use Rattle.std.proofs.lemmas.Bool.{cond-true, le-leb}
 use Rattle.byte_strings.specs.declared.held.Held.{Held}
 use Rattle.byte_strings.specs.Buffer.{Str, count, kept}
 use Rattle.byte_strings.specs.Text.{text_of, fitted}
-use Rattle.byte_strings.proofs.Texts.{fitted_is}
+use Rattle.byte_strings.proofs.Fitted.{fitted_is}
 use Rattle.steps.specs.Meaning.{Transitions}
 use Rattle.steps.specs.Told.{next_told}
 use Rattle.steps.proofs.Answered.{counted, next_ok, some_not_none}

@@ -1,2 +1,3 @@
+pub mod Fitted
+pub mod Lists
 pub mod Over
-pub mod Texts

@@ -1,14 +1,18 @@
 // A string of at most N bytes in a fixed place.
-ghost use Rattle.std.specs.Prelude.{◌≡◌, ◌-◌, ◌≤◌, length, drop, replicate};
+ghost use Rattle.std.specs.Prelude.{◌≡◌, length};
+ghost use Rattle.byte_strings.specs.Buffer.{copied_length, copied};
 
-pub mod text;
+use crate::buffer;
+use crate::list::FixedList;
 
-// The bytes behind the string are zero, so a string has one form.
-#[derive(Clone, Copy)]
-pub struct Held<const N: usize> {
-    len: usize,
-    bytes: [u8; N],
-    ghost within: { len ≤ N },
-    ghost long: { length bytes ≡ N },
-    ghost clear: { drop len bytes ≡ replicate (N - len) 0 },
+pub type Held<const N: usize> = FixedList<u8, N>;
+
+impl<const N: usize> FixedList<u8, N> {
+    // Writes the string over the front of a buffer and answers its length; none, and the buffer as it was, where it is too short.
+    pub fn copy_to(&self, out: &mut [u8]) -> Option<usize>
+        ensures answer { result ≡ copied_length self.now (length out.old) }
+        ensures buffer { out.new ≡ copied self.now out.old }
+    {
+        buffer::copy(self.items(), out)
+    }
 }

@@ -4,7 +4,7 @@ use Rattle.std.proofs.lemmas.List.{take_at}
 use Rattle.std.proofs.lemmas.Bool.{cond-true, le-leb, leb-true, both_ways}
 use Rattle.byte_strings.specs.Buffer.{count_some, kept_some}
 use Rattle.byte_strings.specs.Text.{fitted}
-use Rattle.byte_strings.proofs.Texts.{fitted_is}
+use Rattle.byte_strings.proofs.Fitted.{fitted_is}
 use Rattle.steps.specs.Meaning.{Str, Transitions, Independence}
 use Rattle.steps.specs.Laws.{Laws}
 use Rattle.steps.specs.Told.{both_told, step_fits, left_told, back_told, told_length}

@@ -1,6 +1,6 @@
 use Rattle.std.proofs.Common.{ap}
 use Rattle.byte_strings.specs.Text.{text_of}
-use Rattle.byte_strings.proofs.Texts.{fitted_is}
+use Rattle.byte_strings.proofs.Fitted.{fitted_is}
 use Rattle.history.specs.History.AnswerView.{ends}
 use Rattle.history.proofs.Turning.{held_within}
 use Rattle.history.proofs.turn.end_at.Goals as goal

@@ -6,7 +6,7 @@ use Rattle.steps.specs.Meaning.{Str}
 use Rattle.bench.specs.declared.sheet.Standing.TheVariants.{Open}
 use Rattle.byte_strings.specs.Text.{text_of}
 use Rattle.bench.specs.Page.{Page, page_of}
-use Rattle.byte_strings.proofs.Texts.{fitted_is}
+use Rattle.byte_strings.proofs.Fitted.{fitted_is}
 use Rattle.bench.specs.Calls.{opened, accepted, after}
 use Rattle.bench.proofs.Calling.{was_released, opened_refused, opened_at, state_held}
 use Rattle.bench.proofs.sheet.Sheet.start_at.Goals as goal

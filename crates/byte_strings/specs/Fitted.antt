@@ -1,0 +1,6 @@
+-- What is answered where a list is made of given items. Assumes nothing.
+use Rattle.std.specs.Prelude.{ℕ, cond, List, length, Some, None, Option, nat_le}
+
+-- items, where there are at most n
+abbrev pub fitted : {A : Type 0} → ℕ → List A → Option (List A)
+fitted n items = cond (nat_le (length items) n) (Some items) None
