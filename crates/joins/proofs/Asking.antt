@@ -3,7 +3,7 @@ use Rattle.std.proofs.Common.{◌≡◌, ℕ, ◌-◌, ◌≤◌, Bool, true, fa
 use Rattle.std.proofs.lemmas.List.{take_at}
 use Rattle.std.proofs.lemmas.Bool.{cond-true, le-leb, leb-true, both_ways}
 use Rattle.byte_strings.specs.Buffer.{count_some, kept_some}
-use Rattle.byte_strings.specs.Text.{fitted}
+use Rattle.byte_strings.specs.Fitted.{fitted}
 use Rattle.byte_strings.proofs.Fitted.{fitted_is}
 use Rattle.steps.specs.Meaning.{Str, Transitions, Independence}
 use Rattle.steps.specs.Laws.{Laws}
@@ -12,6 +12,8 @@ use Rattle.steps.specs.declared.fault.MaskFault.{MaskFault}
 use Rattle.steps.specs.declared.fault.MaskFault.TheVariants.{Inner}
 use Rattle.steps.specs.declared.fault.SystemFault.TheVariants.{StepTooLong}
 use Rattle.steps.proofs.Answered.{ok_not_err, some_not_none, both_ok}
+use Rattle.runs.specs.Join.{both_left, meet}
+use Rattle.runs.proofs.Carry.{meet_apart}
 use Rattle.joins.specs.Steps.{ShortStep}
 
 -- a step that is answered, with its length, at the front of a buffer
@@ -21,12 +23,11 @@ some_counted {F} (Ok None) n e = let z : Some n ≡ None = cc in some_not_none n
 some_counted {F} (Err f) n e = ok_not_err (Some n) f e
 
 module _ {F : Type 0} (o : Result (Option Str) F) (w : Str) (is : o ≡ Ok (Some w)) (n : ℕ) (bytes zeros : Str) (buffer : bytes ≡ kept_some o zeros) (len : n ≡ length w) where
-  front : take (n - 0) bytes ≡ w
+  front : take n bytes ≡ w
   front =
-      let whole : n - 0 ≡ length w = omega (arith, len) in
-      ap (λ k. take k bytes) whole ∙ ap (take (length w)) (buffer ∙ ap (λ r. kept_some r zeros) is) ∙ take_at w (drop (length w) zeros) (length w) refl
+      ap (λ k. take k bytes) len ∙ ap (take (length w)) (buffer ∙ ap (λ r. kept_some r zeros) is) ∙ take_at w (drop (length w) zeros) (length w) refl
 
-  front_held : length w ≤ 64 → fitted 64 (take (n - 0) bytes) ≡ Some w
+  front_held : length w ≤ 64 → fitted 64 (take n bytes) ≡ Some w
   front_held short = ap (fitted 64) front ∙ cond-true (leb (length w) 64) (Some w) None (le-leb _ _ short)
 
 -- an answer is no refusal
@@ -48,8 +49,12 @@ pub left_short : {t : Transitions} {i : Independence} → Laws t i → (x y z : 
 left_short laws x y z short e = (laws.left_step x y z e, omega (arith, laws.left_length x y z e, short.1))
 
 -- two strings that a test tells apart are different
-pub told_apart : (y x given_y given_x : Str) (r : Bool) → given_y ≡ y → given_x ≡ x → Decides r (given_y ≡ given_x) → r ≡ false → y ≡ x → ⊥
+told_apart : (y x given_y given_x : Str) (r : Bool) → given_y ≡ y → given_x ≡ x → Decides r (given_y ≡ given_x) → r ≡ false → y ≡ x → ⊥
 told_apart y x given_y given_x r is_y is_x decides e same = both_ways r e (decides.1 (is_y ∙ same ∙ sym is_x))
+
+-- steps that a test tells apart meet as what is left of each
+pub meets_apart : (i : Independence) (y x given_y given_x : Str) (r : Bool) → given_y ≡ y → given_x ≡ x → Decides r (given_y ≡ given_x) → r ≡ false → both_left (i.left y x) (i.left x y) ≡ meet i y x
+meets_apart i y x given_y given_x r is_y is_x decides e = sym (meet_apart i y x (told_apart y x given_y given_x r is_y is_x decides e))
 
 module _ {t : Transitions} {i : Independence} (laws : Laws t i) (x y : Str) (short_x : ShortStep t x) (short_y : ShortStep t y) where
   asked : {A : Type 0} (r : Result A MaskFault) → both_told t x y r ≡ r
@@ -76,17 +81,17 @@ module _ {t : Transitions} {i : Independence} (laws : Laws t i) (x y : Str) (sho
     pub left_not_refused : (f : MaskFault) → Err f ≡ count_some (left_told t i given_x given_y 64) → ⊥
     left_not_refused f e = not_refused (i.left x y) f (e ∙ ap count_some left_is)
 
-    pub left_held : (n : ℕ) (bytes zeros : Str) → Ok (Some n) ≡ count_some (left_told t i given_x given_y 64) → bytes ≡ kept_some (left_told t i given_x given_y 64) zeros → fitted 64 (take (n - 0) bytes) ≡ i.left x y
+    pub left_held : (n : ℕ) (bytes zeros : Str) → Ok (Some n) ≡ count_some (left_told t i given_x given_y 64) → bytes ≡ kept_some (left_told t i given_x given_y 64) zeros → fitted 64 (take n bytes) ≡ i.left x y
     left_held n bytes zeros answer buffer =
         let w = some_counted (left_told t i given_x given_y 64) n answer in
         let is : i.left x y ≡ Some w.0 = cc (left_is, w.1) in
         front_held (left_told t i given_x given_y 64) w.0 w.1 n bytes zeros buffer w.2 (left_short laws x y w.0 short_x is).1 ∙ sym is
 
     -- the step that back answers is one within the limit
-    pub back_held : (n : ℕ) (bytes zeros : Str) → Ok (Some n) ≡ count_some (back_told t i given_x given_y 64) → bytes ≡ kept_some (back_told t i given_x given_y 64) zeros → (w : Str) → Some w ≡ fitted 64 (take (n - 0) bytes) → (step_fits (i.back x y) 64 ≡ Ok (Some w)) × ShortStep t w
+    pub back_held : (n : ℕ) (bytes zeros : Str) → Ok (Some n) ≡ count_some (back_told t i given_x given_y 64) → bytes ≡ kept_some (back_told t i given_x given_y 64) zeros → (w : Str) → Some w ≡ fitted 64 (take n bytes) → (step_fits (i.back x y) 64 ≡ Ok (Some w)) × ShortStep t w
     back_held n bytes zeros answer buffer w held =
         let v = some_counted (back_told t i given_x given_y 64) n answer in
-        let same : w ≡ v.0 = fitted_is (take (n - 0) bytes) w 64 held ∙ front (back_told t i given_x given_y 64) v.0 v.1 n bytes zeros buffer v.2 in
+        let same : w ≡ v.0 = fitted_is (take n bytes) w 64 held ∙ front (back_told t i given_x given_y 64) v.0 v.1 n bytes zeros buffer v.2 in
         let told : step_fits (i.back x y) 64 ≡ Ok (Some w) = sym back_is ∙ v.1 ∙ ap (λ u. Ok (Some u)) (sym same) in
         let f = fits_some (i.back x y) w told in
         (told, (laws.between_steps w x y ((laws.origin x w y).0 f.0), f.1))

@@ -1,8 +1,8 @@
 -- A step carried through a list, one meeting after the other. Assumes the laws of a step system where it says so.
-use Rattle.std.proofs.Common.{◌≡◌, ℕ, zero, suc, ◌+◌, ◌<◌, ◌≤◌, List, [], ◌∷◌, ◌++◌, map, length, get_or, take, drop, Some, None, Option, sym, refl, ap, ◌∙◌, subst, append-nil, arith}
-use Rattle.std.proofs.lemmas.List.{at_drop_more, at_drop_all, length_push, length-map, get_or-map, take_all}
-use Rattle.byte_strings.specs.declared.held.Held.{Held}
-use Rattle.byte_strings.specs.Text.{text_of}
+use Rattle.std.proofs.Common.{◌≡◌, ℕ, zero, suc, ◌+◌, ◌<◌, ◌≤◌, List, [], ◌∷◌, ◌++◌, map, length, get_or, take, drop, Some, None, Ok, Err, Option, Result, sym, refl, ap, ◌∙◌, subst, append-nil, arith}
+use Rattle.std.proofs.lemmas.List.{at_drop_more, at_drop_all, length_push, get_or_default, take_all}
+use Rattle.std.proofs.lemmas.Bool.{true≢false}
+use Rattle.std.specs.Result.{IsErr}
 use Rattle.steps.specs.Meaning.{Str, Transitions, Independence}
 use Rattle.steps.specs.Laws.{Laws}
 use Rattle.runs.specs.Join.{meet, Carried, in_front, carry}
@@ -11,6 +11,8 @@ use Rattle.runs.specs.Join.Carried.{clash, gone, kept}
 use Rattle.runs.proofs.Carry.{Carries, meet_means, carry_same, carry_passes, carry_hits}
 use Rattle.runs.proofs.Carry.Carries.{through, meets, past}
 use Rattle.joins.specs.Steps.{ShortStep, ShortSteps}
+use Rattle.joins.specs.Carry.{carried_told}
+use Rattle.joins.specs.declared.meet.Clash.{Clash}
 use Rattle.joins.proofs.Asking.{left_short}
 
 -- steps in front of what remains
@@ -83,14 +85,12 @@ short_at t [] k d s lt = absurd (omega arith)
 short_at t (x ∷ xs) zero d s lt = s.0
 short_at t (x ∷ xs) (suc k) d s lt = short_at t xs k d s.1 (omega arith)
 
--- the element of the slice that is read, as a step of the list
-pub read_at : (steps : List (Held 64)) (k : ℕ) (x : Held 64) → k < length steps → x ≡ get_or steps k x → (k < length (map text_of steps)) × (get_or (map text_of steps) k [] ≡ text_of x)
-read_at steps k x lt is = (rw length-map lt, get_or-map text_of steps k x [] lt ∙ ap text_of (sym is))
+-- the element of the list that is read
+pub read_at : (xs : List Str) (k : ℕ) (x : Str) → k < length xs → x ≡ get_or xs k x → get_or xs k [] ≡ x
+read_at xs k x lt is = get_or_default xs k [] x lt ∙ sym is
 
-pub short_read : (t : Transitions) (steps : List (Held 64)) (k : ℕ) (x : Held 64) (xs : List Str) → k < length steps → x ≡ get_or steps k x → map text_of steps ≡ xs → ShortSteps t xs → ShortStep t (text_of x)
-short_read t steps k x xs lt is e short =
-    let r = read_at steps k x lt is in
-    subst (ShortStep t) r.1 (short_at t (map text_of steps) k [] (subst (ShortSteps t) (sym e) short) r.0)
+pub short_read : (t : Transitions) (xs : List Str) (k : ℕ) (x : Str) → k < length xs → x ≡ get_or xs k x → ShortSteps t xs → ShortStep t x
+short_read t xs k x lt is short = subst (ShortStep t) (read_at xs k x lt is) (short_at t xs k [] short lt)
 
 abbrev pub ShortOrGone : Transitions → Option Str → Type 0
 ShortOrGone t None = Unit {0}
@@ -104,6 +104,11 @@ module _ {t : Transitions} {i : Independence} (laws : Laws t i) where
   carries_short through s ss = tt
   carries_short (meets e) s ss = ss.1
   carries_short (past {y = y} {x = x} {y' = y'} {x' = x'} e f c) s ss = (left_short laws x y x' ss.0 f, carries_short c (left_short laws y x y' s e) ss.1)
+
+-- a clash is told as one
+pub clash_told : (r : Result (Option Str × List Str) Clash) → IsErr r → clash ≡ carried_told r
+clash_told (Ok p) e = absurd (true≢false (sym e))
+clash_told (Err f) e = refl
 
 -- The invariant of carrying y through xs: what was passed, in front of going on with the rest, is carrying from the start.
 abbrev pub OnTheWay : Transitions → Independence → Str → List Str → List Str → Option Str → ℕ → Type 0
@@ -135,8 +140,9 @@ module _ {t : Transitions} {i : Independence} (laws : Laws t i) (y : Str) (xs q 
     turn_hits w was m = at_hits i xs k q _ lt x at w m (rw was at inv.0)
 
   module _ (done : length xs ≤ k) where
-    pub ends_gone : o ≡ None → gone q ≡ carry i y xs
-    ends_gone was = all_gone i xs k q _ done (rw was at inv.0)
-
-    pub ends_kept : (w : Str) → o ≡ Some w → kept w q ≡ carry i y xs
-    ends_kept w was = all_kept i xs k q _ done w (rw was at inv.0)
+    pub ends : carried_told (Ok (o, q)) ≡ carry i y xs
+    ends = go o inv.0
+      where
+        go : (p : Option Str) → ahead q (goes_on i p (drop k xs)) ≡ carry i y xs → carried_told (Ok (p, q)) ≡ carry i y xs
+        go None e = all_gone i xs k q _ done e
+        go (Some w) e = all_kept i xs k q _ done w e

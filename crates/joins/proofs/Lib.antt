@@ -1,4 +1,3 @@
-pub mod Lists
 pub mod Asking
 pub mod Carrying
 pub mod Joining

@@ -1,12 +1,11 @@
 -- What comes of a step that is carried through a list, as the theory of joins has it. Assumes nothing.
-use Rattle.byte_strings.specs.Text.{text_of}
+use Rattle.std.specs.Prelude.{List, Some, None, Ok, Err, Option, Result}
+use Rattle.steps.specs.Meaning.{Str}
 use Rattle.runs.specs.Join.{Carried}
 use Rattle.runs.specs.Join.Carried.{clash, gone, kept}
-use Rattle.joins.specs.declared.carry.Carried as held
-use Rattle.joins.specs.declared.carry.Carried.TheVariants.{Clash, Gone, Kept}
-use Rattle.joins.specs.List.{steps_in}
+use Rattle.joins.specs.declared.meet.Clash.{Clash}
 
-abbrev pub carried_told : held.Carried → Carried
-carried_told Clash = clash
-carried_told (Gone remains) = gone (steps_in remains)
-carried_told (Kept rest remains) = kept (text_of rest) (steps_in remains)
+abbrev pub carried_told : Result (Option Str × List Str) Clash → Carried
+carried_told (Ok (None, remains)) = gone remains
+carried_told (Ok (Some rest, remains)) = kept rest remains
+carried_told (Err f) = clash

@@ -4,7 +4,6 @@ use Rattle.steps.specs.Meaning.{Str, Independence}
 use Rattle.steps.specs.Laws.{step_limit}
 use Rattle.steps.specs.Told.{step_fits}
 use Rattle.steps.specs.declared.fault.MaskFault.{MaskFault}
-use Rattle.byte_strings.specs.Text.{text_of}
 use Rattle.joins.specs.declared.exchange.Neighbours.{Neighbours}
 
 -- two steps, one behind the other
@@ -13,7 +12,7 @@ pub record Pair : Type 0 where
   pub second : Str
 
 abbrev pub neighbours_told : Result (Option Neighbours) MaskFault → Result (Option Pair) MaskFault
-neighbours_told (Ok (Some n)) = Ok (Some (record { first = text_of n.first; second = text_of n.second }))
+neighbours_told (Ok (Some n)) = Ok (Some (record { first = n.first; second = n.second }))
 neighbours_told (Ok None) = Ok None
 neighbours_told (Err f) = Err f
 

@@ -1,4 +1,3 @@
-pub mod List
 pub mod Steps
 pub mod Exchange
 pub mod Meet

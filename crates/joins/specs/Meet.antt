@@ -1,11 +1,11 @@
 -- What a step does that meets another, as the theory of joins has it. Assumes nothing.
-use Rattle.byte_strings.specs.Text.{text_of}
+use Rattle.std.specs.Prelude.{Some, None, Ok, Err, Option, Result}
 use Rattle.runs.specs.Join.{Met}
 use Rattle.runs.specs.Join.Met.{same, passes, hits}
-use Rattle.joins.specs.declared.meet.Met as held
-use Rattle.joins.specs.declared.meet.Met.TheVariants.{Same, Passes, Hits}
+use Rattle.joins.specs.declared.meet.Clash.{Clash}
+use Rattle.joins.specs.declared.meet.Passed.{Passed}
 
-abbrev pub met_told : held.Met → Met
-met_told Same = same
-met_told (Passes y x) = passes (text_of y) (text_of x)
-met_told Hits = hits
+abbrev pub met_told : Result (Option Passed) Clash → Met
+met_told (Ok None) = same
+met_told (Ok (Some p)) = passes p.y p.x
+met_told (Err f) = hits

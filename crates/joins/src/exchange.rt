@@ -1,6 +1,5 @@
 // Two neighbours, the other way round.
 ghost use Rattle.std.specs.Prelude.{◌≡◌};
-ghost use Rattle.byte_strings.specs.Text.{text_of};
 ghost use Rattle.joins.specs.Steps.{ShortStep};
 ghost use Rattle.joins.specs.Exchange.{neighbours_told, exchanged_told};
 
@@ -22,19 +21,15 @@ pub fn exchange<S: StepSystem>(
     x: &Held<64>,
     z: &Held<64>,
 ) -> Result<Option<Neighbours>, MaskFault>
-    requires first { ShortStep (S.transitions system.now) (text_of x.now) }
-    requires second { ShortStep (S.transitions system.now) (text_of z.now) }
-    ensures { neighbours_told result ≡ exchanged_told (S.independence system.now) (text_of x.now) (text_of z.now) }
+    requires first { ShortStep (S.transitions system.now) x.now }
+    requires second { ShortStep (S.transitions system.now) z.now }
+    ensures { neighbours_told result ≡ exchanged_told (S.independence system.now) x.now z.now }
 {
     let mut bytes = [0u8; 64];
-    let answer = match system.back(x.text(), z.text(), &mut bytes) {
-        Ok(answer) => answer,
-        Err(fault) => return Err(fault),
-    };
-    let Some(n) = answer else {
+    let Some(n) = system.back(x.items(), z.items(), &mut bytes)? else {
         return Ok(None);
     };
-    let Some(first) = Held::of(&bytes[0..n]) else {
+    let Some(first) = Held::of(&bytes[..n]) else {
         return unreachable();
     };
     let Some(second) = residual(system, x, &first) else {

@@ -1,15 +1,5 @@
-// A list of steps in a fixed place.
-ghost use Rattle.std.specs.Prelude.{◌≡◌, ◌≤◌, length};
-
+// A list of at most 32 steps.
 use byte_strings::held::Held;
+use byte_strings::list::FixedList;
 
-pub mod contents;
-
-// At most 32 steps; the rows past the length are left over.
-#[derive(Clone, Copy)]
-pub struct StepList {
-    len: usize,
-    rows: [Held<64>; 32],
-    ghost few: { len ≤ 32 },
-    ghost long: { length rows ≡ 32 },
-}
+pub type StepList = FixedList<Held<64>, 32>;

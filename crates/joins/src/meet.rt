@@ -1,6 +1,5 @@
 // A step that meets another.
 ghost use Rattle.std.specs.Prelude.{◌≡◌};
-ghost use Rattle.byte_strings.specs.Text.{text_of};
 ghost use Rattle.runs.specs.Join as theory;
 ghost use Rattle.joins.specs.Steps.{ShortStep};
 ghost use Rattle.joins.specs.Meet.{met_told};
@@ -9,28 +8,39 @@ use crate::residual::residual;
 use byte_strings::held::Held;
 use steps::system::StepSystem;
 
-// The step is the one it meets, it passes and both become what is left of them, or it hits the other.
+// A step hits another that it is not independent of.
 #[derive(Clone, Copy)]
-pub(crate) enum Met {
-    Same,
-    Passes(Held<64>, Held<64>),
-    Hits,
+pub(crate) struct Clash;
+
+// Steps that passed each other, each as what is left of it.
+#[derive(Clone, Copy)]
+pub(crate) struct Passed {
+    pub(crate) y: Held<64>,
+    pub(crate) x: Held<64>,
 }
 
-// What a step y does that meets x.
-pub(crate) fn meet<S: StepSystem>(system: &S, y: &Held<64>, x: &Held<64>) -> Met
-    requires first { ShortStep (S.transitions system.now) (text_of y.now) }
-    requires second { ShortStep (S.transitions system.now) (text_of x.now) }
-    ensures { met_told result ≡ theory.meet (S.independence system.now) (text_of y.now) (text_of x.now) }
+// Whether a step y that meets x passes it; none where they are one step.
+pub(crate) fn meet<S: StepSystem>(
+    system: &S,
+    y: &Held<64>,
+    x: &Held<64>,
+) -> Result<Option<Passed>, Clash>
+    requires first { ShortStep (S.transitions system.now) y.now }
+    requires second { ShortStep (S.transitions system.now) x.now }
+    ensures { met_told result ≡ theory.meet (S.independence system.now) y.now x.now }
 {
-    if y.text() == x.text() {
-        return Met::Same;
+    if y.items() == x.items() {
+        return Ok(None);
     }
-    let Some(rest) = residual(system, y, x) else {
-        return Met::Hits;
+    let Some(y_rest) = residual(system, y, x) else {
+        return Err(Clash);
     };
-    let Some(other) = residual(system, x, y) else {
-        return Met::Hits;
+    let Some(x_rest) = residual(system, x, y) else {
+        return Err(Clash);
     };
-    Met::Passes(rest, other)
+    let passed = Passed {
+        y: y_rest,
+        x: x_rest,
+    };
+    Ok(Some(passed))
 }

@@ -1,6 +1,5 @@
 // What is left of a step after another, as a held string.
 ghost use Rattle.std.specs.Prelude.{◌≡◌};
-ghost use Rattle.byte_strings.specs.Text.{text_of, held_told};
 ghost use Rattle.joins.specs.Steps.{ShortStep};
 
 use byte_strings::held::Held;
@@ -8,16 +7,14 @@ use steps::system::StepSystem;
 
 // What is left of x after y; none where they are dependent.
 pub(crate) fn residual<S: StepSystem>(system: &S, x: &Held<64>, y: &Held<64>) -> Option<Held<64>>
-    requires first { ShortStep (S.transitions system.now) (text_of x.now) }
-    requires second { ShortStep (S.transitions system.now) (text_of y.now) }
-    ensures { held_told result ≡ (S.independence system.now).left (text_of x.now) (text_of y.now) }
+    requires first { ShortStep (S.transitions system.now) x.now }
+    requires second { ShortStep (S.transitions system.now) y.now }
+    ensures { result ≡ (S.independence system.now).left x.now y.now }
 {
     let mut bytes = [0u8; 64];
-    let Ok(answer) = system.residual(x.text(), y.text(), &mut bytes) else {
+    let Ok(answer) = system.residual(x.items(), y.items(), &mut bytes) else {
         return unreachable();
     };
-    let Some(n) = answer else {
-        return None;
-    };
-    Held::of(&bytes[0..n])
+    let n = answer?;
+    Held::of(&bytes[..n])
 }

@@ -1,25 +1,25 @@
 -- The events that a net holds: how many, what adding one gives, and that all are sound.
-use Rattle.std.proofs.Common.{◌≡◌, ◌+◌, ◌^◌, ◌<◌, ◌≤◌, true, not, ltb, List, [], ◌∷◌, ◌++◌, length, get_or, take, set, is_some, Some, None, Ok, Err, Option, refl, ap, ◌∙◌, arith}
-use Rattle.std.proofs.lemmas.List.{length-take-le, take_more_set}
+use Rattle.std.proofs.Common.{◌≡◌, ℕ, ◌+◌, ◌^◌, ◌<◌, ◌≤◌, true, not, ltb, List, [], ◌∷◌, ◌++◌, length, get_or, take, is_some, Some, None, Ok, Err, Option, refl, ap, ◌∙◌, arith, length-append}
+use Rattle.std.proofs.lemmas.List.{take_all}
 use Rattle.std.proofs.lemmas.Option.{slice_get-get_or, slice_get_past}
 use Rattle.std.proofs.lemmas.Bool.{cond-true, cond-false, lt-ltb, le-ltb, and_from, and_parts}
 use Rattle.steps.specs.Meaning.{Str}
 use Rattle.nets.specs.declared.event.Event.{Event}
 use Rattle.nets.specs.declared.event.EventFault.{EventFault}
 use Rattle.nets.specs.declared.event.EventFault.TheVariants.{Full}
-use Rattle.nets.specs.declared.net.Net.{Net}
-use Rattle.nets.specs.Contents.{events_of}
-use Rattle.nets.specs.Events.{event_fault, narrow, sound_event, all_sound, add_fault}
+use Rattle.nets.specs.Events.{event_fault, narrow, sound_event, all_sound, add_fault, add_told}
 use Rattle.nets.specs.System.{read_event}
-
-pub length_events : (n : Net) → length (events_of n) ≡ n.count
-length_events n = length-take-le n.count n.events (omega arith)
 
 pub full : (es : List Event) (e : Event) → 48 ≤ length es → add_fault es e ≡ Some Full
 full es e h = cond-false (ltb (length es) 48) (event_fault e) (Some Full) (le-ltb (length es) 48 h)
 
 pub room : (es : List Event) (e : Event) → length es < 48 → add_fault es e ≡ event_fault e
 room es e h = cond-true (ltb (length es) 48) (event_fault e) (Some Full) (lt-ltb (length es) 48 h)
+
+-- an event that is taken has no fault
+pub faultless : (o : Option EventFault) → Ok tt ≡ add_told o → o ≡ None
+faultless None e = refl
+faultless (Some f) e = let z : ◌≡◌ {A = ℕ} 0 1 = cc in absurd (omega arith)
 
 pub all_sound_push : (es : List Event) (e : Event) → all_sound es ≡ true → sound_event e ≡ true → all_sound (es ++ e ∷ []) ≡ true
 all_sound_push [] e h k = and_from (sound_event e) true k refl
@@ -31,12 +31,13 @@ pub sound_added : (e : Event) → e.before < 2 ^ 64 → e.after < 2 ^ 64 → eve
 sound_added e low high none =
     and_from (narrow e) (not (is_some (event_fault e))) (and_from (ltb e.before (2 ^ 64)) (ltb e.after (2 ^ 64)) (lt-ltb e.before (2 ^ 64) low) (lt-ltb e.after (2 ^ 64) high)) (ap (λ (o : Option EventFault). not (is_some o)) none)
 
-module _ (n : Net) (e : Event) (space : n.count < 48) where
-  pub stored : take (n.count + 1) (set n.events n.count e) ≡ events_of n ++ e ∷ []
-  stored = take_more_set n.events n.count e (omega arith)
+-- a sound event behind sound ones, where there is room
+module _ (es : List Event) (e : Event) (space : length es < 48) where
+  pub stored : take 48 (es ++ e ∷ []) ≡ es ++ e ∷ []
+  stored = take_all 48 (es ++ e ∷ []) (omega (arith, length-append es (e ∷ []), space))
 
-  pub stored_sound : e.before < 2 ^ 64 → e.after < 2 ^ 64 → event_fault e ≡ None → all_sound (take (n.count + 1) (set n.events n.count e)) ≡ true
-  stored_sound low high none = ap all_sound stored ∙ all_sound_push (events_of n) e n.sound (sound_added e low high none)
+  pub stored_sound : all_sound es ≡ true → e.before < 2 ^ 64 → e.after < 2 ^ 64 → event_fault e ≡ None → all_sound (take 48 (es ++ e ∷ [])) ≡ true
+  stored_sound sound low high none = ap all_sound stored ∙ all_sound_push es e sound (sound_added e low high none)
 
 -- what a string that names an event is read as, by its first number and its length
 pub beyond : (es : List Event) (x : Str) → 0 < length x → length es ≤ get_or x 0 0 → read_event es x ≡ Err 0

@@ -1,7 +1,9 @@
 // Events of a net: what must hold before one, and what holds after it.
 ghost use Rattle.std.specs.Prelude.{◌≡◌, ℕ, true, ◌↔◌, Some};
-ghost use Rattle.nets.specs.Events.{event_fault};
+ghost use Rattle.nets.specs.Events.{event_fault, add_told};
 ghost use Rattle.nets.specs.Firing.{touched, fired, apart, Fires, Apart};
+
+use byte_strings::list::Blank;
 
 // An event: its action, and the conditions before and after it, bit c standing for condition c.
 #[derive(Clone, Copy)]
@@ -23,6 +25,19 @@ pub enum EventFault {
     EmptySet,
     // A condition both before and after it.
     SharedCondition,
+}
+
+// The event in the places of a net that hold none.
+impl Blank for Event {
+    ghost blank = { record { action = 0; before = 0; after = 0 } };
+
+    fn blank() -> Event {
+        Event {
+            action: 0,
+            before: 0,
+            after: 0,
+        }
+    }
 }
 
 impl Event {
@@ -53,19 +68,19 @@ impl Event {
         self.conditions() & other.conditions() == 0
     }
 
-    // What is wrong with the event, if anything.
-    pub fn fault(self) -> Option<EventFault>
-        ensures { result ≡ event_fault self }
+    // Whether a net may have the event, or what is wrong with it.
+    pub fn check(self) -> Result<(), EventFault>
+        ensures { result ≡ add_told (event_fault self) }
     {
         if self.action >= 0x80 || self.action == 0x40 {
-            return Some(EventFault::NoAction);
+            return Err(EventFault::NoAction);
         }
         if self.before == 0 || self.after == 0 {
-            return Some(EventFault::EmptySet);
+            return Err(EventFault::EmptySet);
         }
         if self.before & self.after != 0 {
-            return Some(EventFault::SharedCondition);
+            return Err(EventFault::SharedCondition);
         }
-        None
+        Ok(())
     }
 }

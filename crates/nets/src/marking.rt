@@ -9,9 +9,9 @@ use steps::fault::{MaskFault, SystemFault};
 pub(crate) fn read(state: &[u8]) -> Result<u64, MaskFault>
     ensures { result ≡ marking_told (read_marking state.now) }
 {
-    let [a, b, c, d, e, f, g, h] = state else {
+    let Some(bytes) = state.as_array::<8>() else {
         let place = state.len().min(8) as u16;
         return Err(MaskFault::Inner(SystemFault::NoState(place)));
     };
-    Ok(u64::from_be_bytes([*a, *b, *c, *d, *e, *f, *g, *h]))
+    Ok(u64::from_be_bytes(*bytes))
 }

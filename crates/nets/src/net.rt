@@ -1,20 +1,18 @@
 // Nets, each of which has only events with an action and with two filled, disjoint sets of conditions.
-ghost use Rattle.std.specs.Prelude.{◌≡◌, ◌≤◌, true, length, take};
-ghost use Rattle.nets.specs.Events.{event_limit, all_sound};
+ghost use Rattle.std.specs.Prelude.{◌≡◌, true};
+ghost use Rattle.nets.specs.Events.{all_sound};
 
 use crate::event::Event;
+use byte_strings::list::FixedList;
 
 mod contents;
 
 // The most events that a net has.
 pub const EVENT_LIMIT: usize = 48;
 
-// A net: its events, of which the first `count` stand.
+// A net: its events.
 #[derive(Clone, Copy)]
 pub struct Net {
-    events: [Event; EVENT_LIMIT],
-    count: usize,
-    ghost long: { length events ≡ event_limit },
-    ghost bounded: { count ≤ event_limit },
-    ghost sound: { all_sound (take count events) ≡ true },
+    events: FixedList<Event, EVENT_LIMIT>,
+    ghost sound: { all_sound events ≡ true },
 }

@@ -1,15 +1,16 @@
 // The step system of a net: its states are markings, its steps the numbers of its events.
-ghost use Rattle.std.specs.Prelude.{◌≡◌, length, Some};
+ghost use Rattle.std.specs.Prelude.{◌≡◌, length};
 ghost use Rattle.nets.specs.Contents.{events_of};
 ghost use Rattle.nets.specs.Marking.{bytes_of};
 ghost use Rattle.nets.specs.System.{net_transitions, net_independence};
-ghost use Rattle.byte_strings.specs.Buffer.{count, kept, count_some, kept_some};
-ghost use Rattle.steps.specs.Told.{state_fits, step_fits};
+ghost use Rattle.byte_strings.specs.Buffer.{count, kept};
+ghost use Rattle.steps.specs.Told.{state_fits};
 ghost use Rattle.nets.specs.Laws.{net_laws};
 
 use crate::marking::read;
 use crate::net::Net;
 use byte_strings::buffer;
+use steps::answer::put_step_if;
 use steps::fault::{MaskFault, SystemFault};
 use steps::label::Label;
 use steps::system::StepSystem;
@@ -19,22 +20,8 @@ fn put_marking(marking: u64, out: &mut [u8]) -> Result<usize, MaskFault>
     ensures answer { result ≡ count (state_fits (bytes_of marking) (length out.old)) }
     ensures buffer { out.new ≡ kept (state_fits (bytes_of marking) (length out.old)) out.old }
 {
-    match buffer::copy(&marking.to_be_bytes(), out) {
-        Some(n) => Ok(n),
-        None => Err(MaskFault::Inner(SystemFault::StateTooLong(8))),
-    }
-}
-
-// Writes a step of one byte over the front of the buffer, and answers its length.
-fn put_step(step: &[u8], out: &mut [u8]) -> Result<Option<usize>, MaskFault>
-    requires { length step.now ≡ 1 }
-    ensures answer { result ≡ count_some (step_fits (Some step.now) (length out.old)) }
-    ensures buffer { out.new ≡ kept_some (step_fits (Some step.now) (length out.old)) out.old }
-{
-    match buffer::copy(step, out) {
-        Some(n) => Ok(Some(n)),
-        None => Err(MaskFault::Inner(SystemFault::StepTooLong(1))),
-    }
+    buffer::copy(&marking.to_be_bytes(), out)
+        .ok_or(MaskFault::Inner(SystemFault::StateTooLong(8)))
 }
 
 impl StepSystem for Net {
@@ -45,12 +32,12 @@ impl StepSystem for Net {
     ghost lawful = { λ n. net_laws (events_of n) n.sound };
 
     fn state(&self, state: &[u8]) -> Result<(), MaskFault> {
-        let _ = read(state)?;
+        read(state)?;
         Ok(())
     }
 
     fn step(&self, step: &[u8]) -> Result<(), MaskFault> {
-        let _ = self.event(step)?;
+        self.event(step)?;
         Ok(())
     }
 
@@ -64,9 +51,9 @@ impl StepSystem for Net {
     fn next(&self, state: &[u8], step: &[u8], out: &mut [u8]) -> Result<usize, MaskFault> {
         let event = self.event(step)?;
         let marking = read(state)?;
-        let Some(after) = event.fire(marking) else {
-            return Err(MaskFault::Inner(SystemFault::Impossible(0)));
-        };
+        let after = event
+            .fire(marking)
+            .ok_or(MaskFault::Inner(SystemFault::Impossible(0)))?;
         put_marking(after, out)
     }
 
@@ -77,18 +64,10 @@ impl StepSystem for Net {
     }
 
     fn residual(&self, x: &[u8], y: &[u8], out: &mut [u8]) -> Result<Option<usize>, MaskFault> {
-        if self.independent(x, y)? {
-            put_step(x, out)
-        } else {
-            Ok(None)
-        }
+        put_step_if(self.independent(x, y)?, x, out)
     }
 
     fn back(&self, x: &[u8], z: &[u8], out: &mut [u8]) -> Result<Option<usize>, MaskFault> {
-        if self.independent(x, z)? {
-            put_step(z, out)
-        } else {
-            Ok(None)
-        }
+        put_step_if(self.independent(x, z)?, z, out)
     }
 }

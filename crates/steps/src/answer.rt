@@ -1,5 +1,5 @@
 // A step that a question answers, in a lent buffer.
-ghost use Rattle.std.specs.Prelude.{◌≡◌, length, Some};
+ghost use Rattle.std.specs.Prelude.{◌≡◌, cond, length, Some, None};
 ghost use Rattle.byte_strings.specs.Buffer.{count_some, kept_some};
 ghost use Rattle.steps.specs.Told.{step_fits};
 
@@ -17,5 +17,22 @@ pub fn put_step(step: &[u8], out: &mut [u8]) -> Result<Option<usize>, MaskFault>
             return Ok(Some(n));
         }
     }
-    Err(MaskFault::Inner(SystemFault::StepTooLong(needed.min(65535) as u16)))
+    let told = u16::try_from(needed).unwrap_or(u16::MAX);
+    Err(MaskFault::Inner(SystemFault::StepTooLong(told)))
+}
+
+// Writes a step that is answered where a question has an answer, and nothing where it has none.
+pub fn put_step_if(
+    answered: bool,
+    step: &[u8],
+    out: &mut [u8],
+) -> Result<Option<usize>, MaskFault>
+    ensures answer { result ≡ count_some (step_fits (cond answered (Some step.now) None) (length out.old)) }
+    ensures buffer { out.new ≡ kept_some (step_fits (cond answered (Some step.now) None) (length out.old)) out.old }
+{
+    if answered {
+        put_step(step, out)
+    } else {
+        Ok(None)
+    }
 }

@@ -6,6 +6,7 @@ ghost use Rattle.nets.specs.System.{read_event, event_told};
 
 use crate::event::{Event, EventFault};
 use crate::net::{EVENT_LIMIT, Net};
+use byte_strings::list::FixedList;
 use steps::fault::{MaskFault, SystemFault};
 
 impl Net {
@@ -13,14 +14,8 @@ impl Net {
     pub fn new() -> Net
         ensures { events_of result ≡ [] }
     {
-        let unused = Event {
-            action: 0,
-            before: 0,
-            after: 0,
-        };
         Net {
-            events: [unused; EVENT_LIMIT],
-            count: 0,
+            events: FixedList::empty(),
         }
     }
 
@@ -30,14 +25,11 @@ impl Net {
         ensures events { events_of self.new ≡ events_after (add_fault (events_of self.old) event) (events_of self.old) event }
         ensures refused { is_ok result ≡ false → self.new ≡ self.old }
     {
-        if self.count >= EVENT_LIMIT {
+        if self.events.items().len() >= EVENT_LIMIT {
             return Err(EventFault::Full);
         }
-        if let Some(fault) = event.fault() {
-            return Err(fault);
-        }
-        self.events[self.count] = event;
-        self.count += 1;
+        event.check()?;
+        self.events.push(event);
         Ok(())
     }
 
@@ -48,13 +40,12 @@ impl Net {
         let [number, ..] = step else {
             return Err(MaskFault::Inner(SystemFault::NoStep(0)));
         };
-        let number = *number as usize;
-        if number >= self.count {
+        let Some(event) = self.events.items().get(usize::from(*number)) else {
             return Err(MaskFault::Inner(SystemFault::NoStep(0)));
-        }
+        };
         if step.len() > 1 {
             return Err(MaskFault::Inner(SystemFault::NoStep(1)));
         }
-        Ok(self.events[number])
+        Ok(*event)
     }
 }

@@ -4,7 +4,7 @@ use Rattle.nets.specs.Firing.{apart}
 use Rattle.nets.specs.FiringLemmas.{apart_rule}
 use Rattle.nets.proofs.event.Event.apart_from.Goals as goal
 
-pub returns : goal.returns
-returns c =
+pub returns-clause-rule : goal.returns-clause-rule
+returns-clause-rule c =
     let same : eqb (bit_and c.conditions.result c.conditions-2.result) 0 ≡ apart c.args.self c.args.other = search rules in
-    record { value = same; rule = apart_rule c.args.self c.args.other (omega arith) (omega arith) same }
+    apart_rule c.args.self c.args.other (omega arith) (omega arith) same
