@@ -11,7 +11,7 @@ use Rattle.bench.specs.declared.fault.BenchFault.TheVariants.{WrongStanding, Sys
 use Rattle.bench.specs.declared.sheet.Standing.{Standing}
 use Rattle.bench.specs.declared.sheet.Standing.TheVariants.{Blank, Open, Released}
 use Rattle.bench.specs.Page.{Page}
-use Rattle.byte_strings.specs.Text.{fitted}
+use Rattle.byte_strings.specs.Fitted.{fitted}
 use Rattle.bench.specs.Replay.{replayed, end_told}
 use Rattle.bench.specs.Calls.{Outcome, then, from_system, when_open, when_released, unless_released, opened, added, withdrawn}
 

@@ -1,30 +1,83 @@
--- How a list of steps is followed one by one. Assumes nothing.
-use Rattle.std.proofs.Common.{◌≡◌, ℕ, ◌+◌, ◌<◌, ◌≤◌, List, [], length, get_or, drop, Ok, Err, Result, sym, ap, ◌∙◌}
-use Rattle.std.proofs.lemmas.List.{at_drop_more, at_drop_all}
+-- How a list of steps is followed one by one, and what a replay makes of where it stops. Assumes nothing.
+use Rattle.std.proofs.Common.{◌≡◌, ℕ, ◌+◌, ◌<◌, ◌≤◌, List, [], ◌∷◌, length, get_or, drop, Ok, Err, Result, sym, refl, ap, ◌∙◌}
+use Rattle.std.proofs.lemmas.List.{at_drop_more, at_drop_all, get_or_default}
 use Rattle.steps.specs.Meaning.{Str, Transitions}
 use Rattle.steps.specs.declared.fault.MaskFault.{MaskFault}
 use Rattle.steps.specs.Told.{state_told, next_told}
 use Rattle.bench.specs.declared.fault.BenchFault.{BenchFault}
-use Rattle.bench.specs.declared.fault.BenchFault.TheVariants.{Stopped}
+use Rattle.bench.specs.declared.fault.BenchFault.TheVariants.{Stopped, System}
+use Rattle.bench.specs.declared.state.Halt.{Halt}
+use Rattle.bench.specs.Lead.{led}
 use Rattle.bench.specs.Replay.{followed, replayed}
+use Rattle.bench.specs.Join as join_of
+use Rattle.bench.specs.Calls.{from_system}
 
 -- one step on
-abbrev pub then_followed : Transitions → Result Str MaskFault → List Str → ℕ → Result Str BenchFault
-then_followed t r xs k = elim r [ Ok b ↦ followed t b xs (k + 1) | Err f ↦ Err (Stopped k f) ]
+then_led : Transitions → Result Str MaskFault → List Str → ℕ → Result Str Halt
+then_led t r xs k = elim r [ Ok b ↦ led t b xs (k + 1) | Err f ↦ Err (record { number = k; fault = f }) ]
 
-module _ (t : Transitions) (a : Str) (xs : List Str) (i : ℕ) where
-  followed_more : i < length xs → followed t a (drop i xs) (i + 1) ≡ then_followed t (next_told t a (get_or xs i []) 256) (drop (i + 1) xs) (i + 1)
-  followed_more lt = at_drop_more (λ ys. followed t a ys (i + 1)) xs i [] lt
+module _ (t : Transitions) (a : Str) (xs : List Str) (i : ℕ) (r : Result Str Halt) (inv : led t a (drop i xs) (i + 1) ≡ r) where
+  module _ (lt : i < length xs) (x : Str) (at : x ≡ get_or xs i x) where
+    more : (m : Result Str MaskFault) → m ≡ next_told t a x 256 → then_led t m (drop (i + 1) xs) (i + 1) ≡ r
+    unfolding then_led
+    more m e =
+        ap (λ n. then_led t n (drop (i + 1) xs) (i + 1)) (e ∙ ap (λ y. next_told t a y 256) (at ∙ get_or_default xs i x [] lt))
+        ∙ sym (at_drop_more (λ ys. led t a ys (i + 1)) xs i [] lt) ∙ inv
 
-  pub goes_on : (x b : Str) (r : Result Str BenchFault) → i < length xs → x ≡ get_or xs i [] → Ok b ≡ next_told t a x 256 → followed t a (drop i xs) (i + 1) ≡ r → followed t b (drop (i + 1) xs) (i + 1 + 1) ≡ r
-  goes_on x b r lt at next inv = sym (followed_more lt ∙ ap (λ o. then_followed t o (drop (i + 1) xs) (i + 1)) (ap (λ y. next_told t a y 256) (sym at) ∙ sym next)) ∙ inv
+    pub leads_on : (b : Str) → Ok b ≡ next_told t a x 256 → led t b (drop (i + 1) xs) (i + 1 + 1) ≡ r
+    unfolding then_led
+    leads_on b e = more (Ok b) e
 
-  pub stops : (x : Str) (f : MaskFault) (r : Result Str BenchFault) → i < length xs → x ≡ get_or xs i [] → Err f ≡ next_told t a x 256 → followed t a (drop i xs) (i + 1) ≡ r → Err (Stopped (i + 1) f) ≡ r
-  stops x f r lt at next inv = sym (followed_more lt ∙ ap (λ o. then_followed t o (drop (i + 1) xs) (i + 1)) (ap (λ y. next_told t a y 256) (sym at) ∙ sym next)) ∙ inv
+    pub halts : (f : MaskFault) → Err f ≡ next_told t a x 256 → Err (record { number = i + 1; fault = f }) ≡ r
+    unfolding then_led
+    halts f e = more (Err f) e
 
-  pub arrives : (r : Result Str BenchFault) → length xs ≤ i → followed t a (drop i xs) (i + 1) ≡ r → Ok a ≡ r
-  arrives r done inv = sym (at_drop_all (λ ys. followed t a ys (i + 1)) xs i done) ∙ inv
+  pub leads_there : length xs ≤ i → Ok a ≡ r
+  leads_there done = sym (at_drop_all (λ ys. led t a ys (i + 1)) xs i done) ∙ inv
 
--- from a start that is a state
-pub starts : (t : Transitions) (a : Str) (xs : List Str) (r : Result Str BenchFault) → state_told t a ≡ Ok tt → r ≡ followed t a xs 1 → r ≡ replayed t a xs
-starts t a xs r ok e = e ∙ sym (ap (λ o. elim o as (λ _. Result Str BenchFault) [ Ok _ ↦ followed t a xs 1 | Err f ↦ Err (Stopped 0 f) ]) ok)
+-- what a replay, and a join, make of it
+stopped : Result Str Halt → Result Str BenchFault
+stopped (Ok b) = Ok b
+stopped (Err h) = Err (Stopped h.number h.fault)
+
+led_followed : (t : Transitions) (a : Str) (xs : List Str) (k : ℕ) → stopped (led t a xs k) ≡ followed t a xs k
+unfolding stopped
+led_followed t a [] k = refl
+led_followed t a (x ∷ xs) k = go (next_told t a x 256) (λ b. led_followed t b xs (k + 1))
+  where
+    go : (m : Result Str MaskFault) → ((b : Str) → stopped (led t b xs (k + 1)) ≡ followed t b xs (k + 1)) → stopped (elim m as (λ _. Result Str Halt) [ Ok b ↦ led t b xs (k + 1) | Err f ↦ Err (record { number = k; fault = f }) ]) ≡ elim m as (λ _. Result Str BenchFault) [ Ok b ↦ followed t b xs (k + 1) | Err f ↦ Err (Stopped k f) ]
+    go (Ok b) ih = ih b
+    go (Err f) ih = refl
+
+from_start : (t : Transitions) (a : Str) (xs : List Str) → state_told t a ≡ Ok tt → followed t a xs 1 ≡ replayed t a xs
+from_start t a xs ok = sym (ap (λ o. elim o as (λ _. Result Str BenchFault) [ Ok _ ↦ followed t a xs 1 | Err f ↦ Err (Stopped 0 f) ]) ok)
+
+module _ (t : Transitions) (a : Str) (xs : List Str) (ok : state_told t a ≡ Ok tt) where
+  pub arrives : (b : Str) → Ok b ≡ led t a xs 1 → Ok b ≡ replayed t a xs
+  unfolding stopped
+  arrives b e = ap stopped e ∙ led_followed t a xs 1 ∙ from_start t a xs ok
+
+  pub stops : (h : Halt) → Err h ≡ led t a xs 1 → Err (Stopped h.number h.fault) ≡ replayed t a xs
+  unfolding stopped
+  stops h e = ap stopped e ∙ led_followed t a xs 1 ∙ from_start t a xs ok
+
+unnumbered : Result Str Halt → Result Str MaskFault
+unnumbered (Ok b) = Ok b
+unnumbered (Err h) = Err h.fault
+
+led_on_the_way : (t : Transitions) (a : Str) (xs : List Str) (k : ℕ) → unnumbered (led t a xs k) ≡ join_of.led t a xs
+unfolding unnumbered
+led_on_the_way t a [] k = refl
+led_on_the_way t a (x ∷ xs) k = go (next_told t a x 256) (λ b. led_on_the_way t b xs (k + 1))
+  where
+    go : (m : Result Str MaskFault) → ((b : Str) → unnumbered (led t b xs (k + 1)) ≡ join_of.led t b xs) → unnumbered (elim m as (λ _. Result Str Halt) [ Ok b ↦ led t b xs (k + 1) | Err f ↦ Err (record { number = k; fault = f }) ]) ≡ elim m as (λ _. Result Str MaskFault) [ Ok b ↦ join_of.led t b xs | Err f ↦ Err f ]
+    go (Ok b) ih = ih b
+    go (Err f) ih = refl
+
+pub passes : (t : Transitions) (a : Str) (xs : List Str) (b : Str) → Ok b ≡ led t a xs 1 → Ok b ≡ join_of.led t a xs
+unfolding unnumbered
+passes t a xs b e = ap unnumbered e ∙ led_on_the_way t a xs 1
+
+pub blocks : (t : Transitions) (a : Str) (xs : List Str) (h : Halt) → Err h ≡ led t a xs 1 → Err h.fault ≡ join_of.led t a xs
+unfolding unnumbered
+blocks t a xs h e = ap unnumbered e ∙ led_on_the_way t a xs 1

@@ -26,48 +26,6 @@ and_then_err r k f e = sym (ap (λ w. and_then w k) e)
 and_then_ok : {A B : Type 0} (r : Result A BenchFault) (k : A → Result B BenchFault) (a : A) → Ok a ≡ r → and_then r k ≡ k a
 and_then_ok r k a e = sym (ap (λ w. and_then w k) e)
 
--- steps that lead on, one by one
-then_led : Transitions → Result Str MaskFault → List Str → Result Str MaskFault
-then_led t r xs = elim r [ Ok b ↦ led t b xs | Err f ↦ Err f ]
-
-module _ (t : Transitions) (a : Str) (xs : List Str) (k : ℕ) where
-  module _ (lt : k < length xs) (x : Str) (at : get_or xs k [] ≡ x) (given : Str) (is : given ≡ x) where
-    led_more : (r : Result Str MaskFault) → r ≡ next_told t a given 256 → led t a (drop k xs) ≡ then_led t r (drop (k + 1) xs)
-    unfolding then_led
-    led_more r e = at_drop_more (led t a) xs k [] lt ∙ ap (λ o. then_led t o (drop (k + 1) xs)) (ap (λ y. next_told t a y 256) (at ∙ sym is) ∙ sym e)
-
-    pub leads_on : (b : Str) (r : Result Str MaskFault) → Ok b ≡ next_told t a given 256 → led t a (drop k xs) ≡ r → led t b (drop (k + 1) xs) ≡ r
-    unfolding then_led
-    leads_on b r e inv = sym (led_more (Ok b) e) ∙ inv
-
-    pub leads_nowhere : (f : MaskFault) (r : Result Str MaskFault) → Err f ≡ next_told t a given 256 → led t a (drop k xs) ≡ r → Err f ≡ r
-    unfolding then_led
-    leads_nowhere f r e inv = sym (led_more (Err f) e) ∙ inv
-
-  pub leads_there : (r : Result Str MaskFault) → length xs ≤ k → led t a (drop k xs) ≡ r → Ok a ≡ r
-  leads_there r done inv = sym (at_drop_all (led t a) xs k done) ∙ inv
-
--- rows written one behind the other
-pub written_none : (rows : List Str) (n : ℕ) → rows ≡ written rows n []
-written_none rows n = sym (ap (λ m. take n rows ++ drop m rows) (omega arith) ∙ take-append-drop n rows)
-
-pub written_more : (rows : List Str) (n : ℕ) (xs : List Str) (k : ℕ) (x : Str) → k < length xs → n + length xs ≤ length rows → get_or xs k [] ≡ x → set (written rows n (take k xs)) (n + k) x ≡ written rows n (take (k + 1) xs)
-written_more rows n xs k x lt room at =
-    let front = take n rows ++ take k xs in
-    let long_k : length (take k xs) ≡ k = length-take-le k xs (omega arith) in
-    let long_n : length (take n rows) ≡ n = length-take-le n rows (omega arith) in
-    let long : length front ≡ n + k = length-append (take n rows) (take k xs) ∙ omega arith in
-    let old = get_or rows (n + k) [] in
-    let split : drop (n + length (take k xs)) rows ≡ old ∷ drop (n + k + 1) rows = ap (λ m. drop (n + m) rows) long_k ∙ drop_more rows (n + k) [] (omega arith) in
-    let grown : take (k + 1) xs ≡ take k xs ++ x ∷ [] = take_more xs k [] lt ∙ ap (λ y. take k xs ++ y ∷ []) at in
-    let more : n + length (take (k + 1) xs) ≡ n + k + 1 = omega (arith, length-take-le (k + 1) xs (omega arith)) in
-    ap (λ l. set (take n rows ++ (take k xs ++ l)) (n + k) x) split
-    ∙ ap (λ l. set l (n + k) x) (sym (append_assoc (take n rows) (take k xs) (old ∷ drop (n + k + 1) rows)))
-    ∙ set_at front old (drop (n + k + 1) rows) x (n + k) long
-    ∙ append_assoc (take n rows) (take k xs) (x ∷ drop (n + k + 1) rows)
-    ∙ ap (λ l. take n rows ++ l) (sym (append_assoc (take k xs) (x ∷ []) (drop (n + k + 1) rows)))
-    ∙ ap₂ (λ l m. take n rows ++ (l ++ drop m rows)) (sym grown) (sym more)
-
 -- the starts, and the rooms
 pub starts_alike : (t : Transitions) (p e : Page) (a b : Str) (r : Bool) → Ok a ≡ end_told t p → Ok b ≡ end_told t e → r ≡ bytes_eq p.start e.start → alike t p e ≡ cond r (Ok a) (Err StartsDiffer)
 starts_alike t p e a b r first second same = and_then_ok (end_told t p) _ a first ∙ and_then_ok (end_told t e) _ b second ∙ ap (λ s. cond s (Ok a) (Err StartsDiffer)) (sym same)

@@ -1,7 +1,7 @@
 -- The lines of the steps of a sheet that replays, one by one. Assumes nothing.
 use Rattle.std.proofs.Common.{◌≡◌, ℕ, zero, suc, ◌+◌, ◌-◌, ◌*◌, ◌<◌, ◌≤◌, min, Bool, true, false, leb, List, [], ◌∷◌, ◌++◌, length, get_or, take, drop, is_ok, Ok, Err, Result, sym, refl, ap, ◌∙◌, arith, length-append}
 use borrow.Rule.Slice.PartMut.{put_mid}
-use Rattle.std.proofs.lemmas.List.{take_more, take-take, take-append-drop, flat_map_more, append_assoc}
+use Rattle.std.proofs.lemmas.List.{take_more, take-append-drop, flat_map_more, append_assoc}
 use Rattle.std.proofs.lemmas.Bool.{cond-true, cond-false, le-leb, lt-leb}
 use Rattle.byte_strings.specs.Buffer.{over, copied}
 use Rattle.byte_strings.proofs.Over.{copied_over, over_part, copied_part}
@@ -24,14 +24,13 @@ lines_append : (xs ys : List Str) → lines_length (xs ++ ys) ≡ lines_length x
 lines_append [] ys = omega arith
 lines_append (x ∷ xs) ys = omega (arith, lines_append xs ys)
 
-pub lines_more : (rows : List Str) (i : ℕ) → i < length rows → lines_length (take (i + 1) rows) ≡ lines_length (take i rows) + (2 * length (get_or rows i []) + 3)
-lines_more rows i lt = ap lines_length (take_more rows i [] lt) ∙ lines_append (take i rows) (get_or rows i [] ∷ []) ∙ omega arith
+pub lines_more : (rows : List Str) (i : ℕ) (x : Str) → i < length rows → x ≡ get_or rows i x → lines_length (take (i + 1) rows) ≡ lines_length (take i rows) + (2 * length x + 3)
+lines_more rows i x lt is = ap lines_length (take_more rows i x lt) ∙ lines_append (take i rows) (get_or rows i x ∷ []) ∙ omega (arith, ap length is)
 
-pub lines_within : (rows : List Str) (i n : ℕ) → i ≤ n → lines_length (take i rows) ≤ lines_length (take n rows)
-lines_within rows i n le =
-    let split = ap lines_length (take-append-drop i (take n rows)) in
-    let front = ap lines_length (take-take i n rows le) in
-    omega (arith, split, front, lines_append (take i (take n rows)) (drop i (take n rows)))
+pub lines_within : (xs : List Str) (i : ℕ) → lines_length (take i xs) ≤ lines_length xs
+lines_within xs i =
+    let split = ap lines_length (take-append-drop i xs) in
+    omega (arith, split, lines_append (take i xs) (drop i xs))
 
 pub length_step_lines : (t : Transitions) (xs : List Str) → length (step_lines t xs) ≡ lines_length xs
 length_step_lines t [] = refl
@@ -39,19 +38,18 @@ length_step_lines t (x ∷ xs) =
     length-append (step_line t x) (step_lines t xs) ∙ omega (arith, length_line ((t.label x).action ∷ x), length_step_lines t xs)
 
 -- one line more
-pub lines_next : (t : Transitions) (rows : List Str) (i n : ℕ) (x : Str) (label : Label) (out now part : Str) → i < length rows → x ≡ get_or rows i [] → label ≡ t.label x
+pub lines_next : (t : Transitions) (rows : List Str) (i n : ℕ) (x : Str) (label : Label) (out now part : Str) → i < length rows → x ≡ get_or rows i x → label ≡ t.label x
     → n ≡ lines_length (take i rows) → lines_length (take (i + 1) rows) ≤ length out → now ≡ over (step_lines t (take i rows)) out → part ≡ copied (line ((label.action ∷ []) ++ x)) (take (length now - n) (drop n now))
     → put_mid n (length now - n) now part ≡ over (step_lines t (take (i + 1) rows)) out
 lines_next t rows i n x label out now part lt at shows len room before wrote =
     let w = step_lines t (take i rows) in
     let v = line (label.action ∷ x) in
-    let more = lines_more rows i lt in
+    let more = lines_more rows i x lt at in
     let long : length w ≡ n = length_step_lines t (take i rows) ∙ sym len in
-    let same : v ≡ step_line t (get_or rows i []) = ap (λ l. line (l.action ∷ x)) shows ∙ ap (step_line t) at in
+    let same : v ≡ step_line t x = ap (λ l. line (l.action ∷ x)) shows in
     let size : length v ≡ 2 * length x + 3 = length_line (label.action ∷ x) ∙ omega arith in
-    let size' = ap length at in
     copied_part w v out now part n long (omega arith) before wrote ∙ ap (λ u. over (w ++ u) out) same
-    ∙ ap (λ u. over u out) (flat_map_more (step_line t) [] (take i rows) (get_or rows i []) ∙ sym (ap (step_lines t) (take_more rows i [] lt)))
+    ∙ ap (λ u. over u out) (flat_map_more (step_line t) [] (take i rows) x ∙ sym (ap (step_lines t) (take_more rows i x lt ∙ ap (λ y. take i rows ++ y ∷ []) (sym at))))
 
 -- every step of a replay that ends shows its label
 Shown : Transitions → Str → Type 0

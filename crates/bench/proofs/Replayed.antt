@@ -1,9 +1,6 @@
 -- What a replay that ends says of the steps. Assumes the laws of a step system.
 use Rattle.std.proofs.Common.{◌≡◌, ℕ, ◌+◌, ◌<◌, true, List, [], ◌∷◌, map, length, get_or, take, is_ok, Ok, Err, Result, sym, refl, ◌∙◌, subst, arith, length-take, get_or-take}
-use Rattle.std.proofs.lemmas.List.{get_or-map, length-map}
 use Rattle.std.proofs.lemmas.Bool.{false≢true}
-use Rattle.byte_strings.specs.declared.held.Held.{Held}
-use Rattle.byte_strings.specs.Text.{text_of}
 use Rattle.steps.specs.Meaning.{Str, Transitions, Independence}
 use Rattle.steps.specs.Laws.{Laws}
 use Rattle.steps.specs.declared.fault.MaskFault.{MaskFault}
@@ -14,7 +11,6 @@ use Rattle.joins.proofs.Carrying.{short_at}
 use Rattle.bench.specs.declared.fault.BenchFault.{BenchFault}
 use Rattle.bench.specs.declared.fault.BenchFault.TheVariants.{Stopped}
 use Rattle.bench.specs.Replay.{followed, replayed}
-use Rattle.bench.proofs.Following.{then_followed}
 
 -- an answer that is no refusal
 pub ok_is : {A F : Type 0} (r : Result A F) → is_ok r ≡ true → (a : A) × (r ≡ Ok a)
@@ -26,7 +22,7 @@ module _ {t : Transitions} {i : Independence} (laws : Laws t i) where
   followed_short [] a k b e = tt
   followed_short (x ∷ xs) a k b e = go (next_told t a x 256) refl e (λ c. followed_short xs c (k + 1) b)
     where
-      go : (r : Result Str MaskFault) → next_told t a x 256 ≡ r → then_followed t r xs k ≡ Ok b → ((c : Str) → followed t c xs (k + 1) ≡ Ok b → ShortSteps t xs) → ShortSteps t (x ∷ xs)
+      go : (r : Result Str MaskFault) → next_told t a x 256 ≡ r → elim r as (λ _. Result Str BenchFault) [ Ok b ↦ followed t b xs (k + 1) | Err f ↦ Err (Stopped k f) ] ≡ Ok b → ((c : Str) → followed t c xs (k + 1) ≡ Ok b → ShortSteps t xs) → ShortSteps t (x ∷ xs)
       go (Err f) n p ih = ok_not_err b (Stopped k f) (sym p)
       go (Ok c) n p ih = let f = next_ok t a x c 256 n in ((laws.steps_told x).0 (f.shaped, f.shown), ih c p)
 
@@ -39,8 +35,8 @@ module _ {t : Transitions} {i : Independence} (laws : Laws t i) where
       go (Err f) p = ok_not_err b (Stopped 0 f) (sym p)
 
   -- and so is each row of them
-  pub row_short : (a : Str) (rows : List (Held 64)) (n : ℕ) → is_ok (replayed t a (take n (map text_of rows))) ≡ true → (k : ℕ) → k < n → k < length rows → (d : Held 64) → ShortStep t (text_of (get_or rows k d))
+  pub row_short : (a : Str) (rows : List Str) (n : ℕ) → is_ok (replayed t a (take n rows)) ≡ true → (k : ℕ) → k < n → k < length rows → (d : Str) → ShortStep t (get_or rows k d)
   row_short a rows n ok k below inside d =
-      let end = ok_is (replayed t a (take n (map text_of rows))) ok in
-      let short = short_at t (take n (map text_of rows)) k [] (replayed_short a _ end.0 end.1) (simp (length-take, length-map) (omega arith)) in
-      subst (ShortStep t) (get_or-take n (map text_of rows) k [] below ∙ get_or-map text_of rows k d [] inside) short
+      let end = ok_is (replayed t a (take n rows)) ok in
+      let short = short_at t (take n rows) k d (replayed_short a _ end.0 end.1) (simp length-take (omega arith)) in
+      subst (ShortStep t) (get_or-take n rows k d below) short

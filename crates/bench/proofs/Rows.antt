@@ -1,40 +1,29 @@
--- Rows and states as held strings. Assumes nothing.
-use Rattle.std.proofs.Common.{◌≡◌, ℕ, ◌-◌, ◌≤◌, true, cond, leb, List, map, length, take, drop, set, Some, None, Ok, sym, refl, ap, ◌∙◌, arith}
-use Rattle.std.proofs.lemmas.List.{map-set, take_at}
+-- States that follow, read out of a buffer. Assumes nothing.
+use Rattle.std.proofs.Common.{◌≡◌, ℕ, ◌≤◌, cond, leb, length, take, drop, Some, None, Ok, sym, refl, ap, ◌∙◌, arith}
+use Rattle.std.proofs.lemmas.List.{take_at}
 use Rattle.std.proofs.lemmas.Bool.{cond-true, le-leb}
-use Rattle.byte_strings.specs.declared.held.Held.{Held}
 use Rattle.byte_strings.specs.Buffer.{Str, count, kept}
-use Rattle.byte_strings.specs.Text.{text_of, fitted}
+use Rattle.byte_strings.specs.Fitted.{fitted}
 use Rattle.byte_strings.proofs.Fitted.{fitted_is}
 use Rattle.steps.specs.Meaning.{Transitions}
 use Rattle.steps.specs.Told.{next_told}
 use Rattle.steps.proofs.Answered.{counted, next_ok, some_not_none}
-
--- one row written
-pub row_put : {n : ℕ} (rows : List (Held n)) (i : ℕ) (row : Held n) (x old : Str) → text_of row ≡ cond (leb (length x) n) x old → true ≡ leb (length x) n → map text_of (set rows i row) ≡ set (map text_of rows) i x
-row_put {n} rows i row x old e fits = map-set text_of rows i row ∙ ap (λ w. set (map text_of rows) i w) (e ∙ cond-true (leb (length x) n) x old (sym fits))
-
--- two rows written
-pub two_rows : {n : ℕ} (rows : List (Held n)) (i j : ℕ) (x y : Held n) → map text_of (set (set rows i x) j y) ≡ set (set (map text_of rows) i (text_of x)) j (text_of y)
-two_rows rows i j x y = map-set text_of (set rows i x) j y ∙ ap (λ l. set l j (text_of y)) (map-set text_of rows i x)
 
 -- a state that follows, at the front of a buffer
 module _ (t : Transitions) (a x bytes zeros : Str) (len : ℕ) (answer : Ok len ≡ count (next_told t a x 256)) (buffer : bytes ≡ kept (next_told t a x 256) zeros) where
   next_is : (b : Str) × (next_told t a x 256 ≡ Ok b) × (len ≡ length b)
   next_is = counted (next_told t a x 256) len answer
 
-  front : take (len - 0) bytes ≡ next_is.0
-  front =
-      let whole : len - 0 ≡ length next_is.0 = omega (arith, next_is.2) in
-      ap (λ k. take k bytes) whole ∙ ap (take (length next_is.0)) (buffer ∙ ap (λ r. kept r zeros) next_is.1) ∙ take_at next_is.0 (drop (length next_is.0) zeros) (length next_is.0) refl
+  front : take len bytes ≡ next_is.0
+  front = ap (λ k. take k bytes) next_is.2 ∙ ap (take (length next_is.0)) (buffer ∙ ap (λ r. kept r zeros) next_is.1) ∙ take_at next_is.0 (drop (length next_is.0) zeros) (length next_is.0) refl
 
   pub next_short : len ≤ 256
   next_short = omega (arith, next_is.2, (next_ok t a x next_is.0 256 next_is.1).short)
 
-  pub next_held : (w : Str) → Some w ≡ fitted 256 (take (len - 0) bytes) → Ok w ≡ next_told t a x 256
-  next_held w e = ap Ok (fitted_is (take (len - 0) bytes) w 256 e ∙ front) ∙ sym next_is.1
+  pub next_held : (w : Str) → Some w ≡ fitted 256 (take len bytes) → Ok w ≡ next_told t a x 256
+  next_held w e = ap Ok (fitted_is (take len bytes) w 256 e ∙ front) ∙ sym next_is.1
 
-  pub next_fits : None ≡ fitted 256 (take (len - 0) bytes) → ⊥
+  pub next_fits : None ≡ fitted 256 (take len bytes) → ⊥
   next_fits none =
       let short = (next_ok t a x next_is.0 256 next_is.1).short in
       some_not_none next_is.0 (sym (cond-true (leb (length next_is.0) 256) (Some next_is.0) None (le-leb _ _ short)) ∙ sym (none ∙ ap (fitted 256) front))

@@ -5,8 +5,6 @@ use Rattle.steps.specs.Meaning.{Str, Transitions, Independence}
 use Rattle.steps.specs.declared.fault.MaskFault.{MaskFault}
 use Rattle.steps.specs.Told.{next_told}
 use Rattle.runs.specs.Join.{join}
-use Rattle.joins.specs.declared.list.StepList.{StepList}
-use Rattle.joins.specs.List.{steps_in}
 use Rattle.joins.specs.Join.{added_of}
 use Rattle.bench.specs.declared.fault.BenchFault.{BenchFault}
 use Rattle.bench.specs.declared.fault.BenchFault.TheVariants.{NoSheet, WrongStanding, StartsDiffer, Conflict, TooMany}
@@ -64,14 +62,10 @@ joined t i other p =
       | Some e ↦ unless_blank e (and_then (alike t p e) (λ a. and_then (surviving t i a p e) (λ added. Ok (merged p e added))))
     ])
 
--- a sheet that was named, survivors, and the pair of numbers that a join answers
+-- a sheet that was named, and the pair of numbers that a join answers
 abbrev pub named_page : Option Sheet → Option Page
 named_page None = None
 named_page (Some s) = Some (page_of s)
-
-abbrev pub list_told : Result StepList BenchFault → Result (List Str) BenchFault
-list_told (Ok l) = Ok (steps_in l)
-list_told (Err f) = Err f
 
 abbrev pub pair_told : Result (ℕ × ℕ) BenchFault → Result Str BenchFault
 pair_told (Ok (n, k)) = Ok (n ∷ k ∷ [])

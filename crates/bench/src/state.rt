@@ -1,15 +1,19 @@
-// Held states: the one that follows, and the one that is answered.
-ghost use Rattle.std.specs.Prelude.{◌≡◌, length};
+// Held states: the one that follows, the one that a list of steps leads to, and the one that is answered.
+ghost use Rattle.std.specs.Prelude.{◌≡◌, ◌≤◌, length};
 ghost use Rattle.byte_strings.specs.Buffer.{count, kept};
-ghost use Rattle.byte_strings.specs.Text.{text_of, said};
 ghost use Rattle.steps.specs.Told.{next_told, state_fits};
-ghost use Rattle.joins.specs.List.{steps_in};
-ghost use Rattle.bench.specs.Join.{led};
+ghost use Rattle.bench.specs.Lead.{led};
 
 use byte_strings::held::Held;
-use joins::list::StepList;
 use steps::fault::{MaskFault, SystemFault};
 use steps::system::StepSystem;
+
+// Where a list of steps stops: the number of the step, and why it does not follow.
+#[derive(Clone, Copy)]
+pub(crate) struct Halt {
+    pub(crate) number: u16,
+    pub(crate) fault: MaskFault,
+}
 
 // The state that follows by a step, or why there is none.
 pub(crate) fn following<S: StepSystem>(
@@ -17,46 +21,47 @@ pub(crate) fn following<S: StepSystem>(
     state: &Held<256>,
     step: &[u8],
 ) -> Result<Held<256>, MaskFault>
-    ensures { said result ≡ next_told (S.transitions system.now) (text_of state.now) step.now 256 }
+    ensures { result ≡ next_told (S.transitions system.now) state.now step.now 256 }
 {
     let mut bytes = [0u8; 256];
-    match system.next(state.text(), step, &mut bytes) {
-        Ok(len) => {
-            let Some(next) = Held::of(&bytes[0..len]) else {
-                return unreachable();
-            };
-            Ok(next)
-        }
-        Err(fault) => Err(fault),
-    }
+    let len = system.next(state.items(), step, &mut bytes)?;
+    let Some(next) = Held::of(&bytes[..len]) else {
+        return unreachable();
+    };
+    Ok(next)
 }
 
-// The state that a list of steps leads to, or why one of them does not follow.
+// The state that steps lead to, or the first of them, numbered from 1, that does not follow.
 pub(crate) fn lead<S: StepSystem>(
     system: &S,
-    state: &Held<256>,
-    list: &StepList,
-) -> Result<Held<256>, MaskFault>
-    ensures { said result ≡ led (S.transitions system.now) (text_of state.now) (steps_in list.now) }
+    start: &Held<256>,
+    steps: &[Held<64>],
+) -> Result<Held<256>, Halt>
+    requires { length steps.now ≤ 32 }
+    ensures { result ≡ led (S.transitions system.now) start.now steps.now 1 }
 {
-    let mut end = *state;
-    let steps = list.steps();
-    for step in steps {
-        match following(system, &end, step.text()) {
-            Ok(next) => end = next,
-            Err(fault) => return Err(fault),
+    let mut state = *start;
+    for (i, step) in steps.iter().enumerate() {
+        match following(system, &state, step.items()) {
+            Ok(next) => state = next,
+            Err(fault) => {
+                return Err(Halt {
+                    number: i as u16 + 1,
+                    fault,
+                });
+            }
         }
     }
-    Ok(end)
+    Ok(state)
 }
 
 // Writes a state over the front of a buffer and answers its length, or refuses as the system would where it has no room.
 pub(crate) fn answer(state: &Held<256>, out: &mut [u8]) -> Result<usize, MaskFault>
-    ensures answer { result ≡ count (state_fits (text_of state.now) (length out.old)) }
-    ensures buffer { out.new ≡ kept (state_fits (text_of state.now) (length out.old)) out.old }
+    ensures answer { result ≡ count (state_fits state.now (length out.old)) }
+    ensures buffer { out.new ≡ kept (state_fits state.now (length out.old)) out.old }
 {
-    match state.copy_to(out) {
-        Some(n) => Ok(n),
-        None => Err(MaskFault::Inner(SystemFault::StateTooLong(state.text().len() as u16))),
-    }
+    let needed = state.items().len() as u16;
+    state
+        .copy_to(out)
+        .ok_or(MaskFault::Inner(SystemFault::StateTooLong(needed)))
 }

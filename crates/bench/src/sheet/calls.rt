@@ -71,7 +71,7 @@ impl Sheet {
         if head.len >= 32 {
             return Err(BenchFault::Full);
         }
-        let n = system.next(end.text(), step, out)?;
+        let n = system.next(end.items(), step, out)?;
         if !self.rows[head.len].put(step) {
             return unreachable();
         }

@@ -1,7 +1,5 @@
 // One sheet joined into another.
 ghost use Rattle.std.specs.Prelude.{◌≡◌, ◌+◌, ◌≤◌, true, map, length, is_ok, is_err, IfOk};
-ghost use Rattle.byte_strings.specs.Text.{text_of, said};
-ghost use Rattle.joins.specs.List.{steps_in};
 ghost use Rattle.bench.specs.Page.{page_of, steps_of};
 ghost use Rattle.bench.specs.Replay.{end_told};
 ghost use Rattle.bench.specs.Calls.{answered, after};
@@ -15,32 +13,21 @@ use joins::join::join;
 use joins::list::StepList;
 use steps::system::StepSystem;
 
-// Writes steps over the rows from `first` on.
-fn write_rows(rows: &mut [Held<64>; 32], first: usize, added: &StepList)
-    requires { first + length (steps_in added.now) ≤ 32 }
-    ensures { map text_of rows.new ≡ join_of.written (map text_of rows.old) first (steps_in added.now) }
-{
-    let steps = added.steps();
-    for (k, step) in steps.iter().enumerate() {
-        rows[first + k] = *step;
-    }
-}
-
 impl Sheet {
     // The steps of the sheet.
     fn steps(&self) -> StepList
-        ensures { steps_in result ≡ steps_of (page_of self.now) }
+        ensures { result ≡ steps_of (page_of self.now) }
     {
         StepList::first(&self.rows, self.head.len)
     }
 
     // Replays both sheets and compares their starts, and answers the end of this one.
     fn alike<S: StepSystem>(&self, system: &S, other: &Sheet) -> Result<Held<256>, BenchFault>
-        ensures { said result ≡ join_of.alike (S.transitions system.now) (page_of self.now) (page_of other.now) }
+        ensures { result ≡ join_of.alike (S.transitions system.now) (page_of self.now) (page_of other.now) }
     {
         let end = self.replay(system, self.head.len)?;
         other.replay(system, other.head.len)?;
-        if self.start.text() == other.start.text() {
+        if self.start.items() == other.start.items() {
             Ok(end)
         } else {
             Err(BenchFault::StartsDiffer)
@@ -56,32 +43,37 @@ impl Sheet {
     ) -> Result<StepList, BenchFault>
         requires first { is_ok (end_told (S.transitions system.now) (page_of self.now)) ≡ true }
         requires second { is_ok (end_told (S.transitions system.now) (page_of other.now)) ≡ true }
-        ensures value { join_of.list_told result ≡ join_of.surviving (S.transitions system.now) (S.independence system.now) (text_of end.now) (page_of self.now) (page_of other.now) }
-        ensures few { IfOk result (λ added. length (steps_in added) ≤ other.now.head.len) }
-        ensures room { IfOk result (λ added. self.now.head.len + length (steps_in added) ≤ 32) }
+        ensures value { result ≡ join_of.surviving (S.transitions system.now) (S.independence system.now) end.now (page_of self.now) (page_of other.now) }
+        ensures few { IfOk result (λ added. length added ≤ other.now.head.len) }
+        ensures room { IfOk result (λ added. self.now.head.len + length added ≤ 32) }
     {
         let added = match join(system, &self.steps(), &other.steps()) {
             Ok(added) => added,
             Err(place) => return Err(BenchFault::Conflict(place as u16)),
         };
-        let len = self.head.len + added.steps().len();
+        let len = self.head.len + added.items().len();
         if len > 32 {
             return Err(BenchFault::TooMany(len as u16));
         }
-        lead(system, end, &added)?;
-        Ok(added)
+        match lead(system, end, added.items()) {
+            Ok(_) => Ok(added),
+            Err(halt) => Err(BenchFault::System(halt.fault)),
+        }
     }
 
     // Puts steps behind the others.
     fn append(&mut self, added: &StepList)
-        requires { self.old.head.len + length (steps_in added.now) ≤ 32 }
-        ensures { page_of self.new ≡ join_of.longer (page_of self.old) (steps_in added.now) }
+        requires { self.old.head.len + length added.now ≤ 32 }
+        ensures { page_of self.new ≡ join_of.longer (page_of self.old) added.now }
     {
         let head = self.head;
-        write_rows(&mut self.rows, head.len, added);
+        let steps = added.items();
+        let len = head.len + steps.len();
+        let rows = &mut self.rows[..];
+        rows[head.len..len].copy_from_slice(steps);
         self.head = Head {
             standing: head.standing,
-            len: head.len + added.steps().len(),
+            len,
         };
     }
 
@@ -106,8 +98,8 @@ impl Sheet {
         }
         let end = self.alike(system, &other)?;
         let added = self.survivors(system, &other, &end)?;
-        let len = self.head.len + added.steps().len();
-        let shared = other.head.len - added.steps().len();
+        let len = self.head.len + added.items().len();
+        let shared = other.head.len - added.items().len();
         self.append(&added);
         Ok((len as u8, shared as u8))
     }

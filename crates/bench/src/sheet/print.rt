@@ -1,7 +1,6 @@
 // The printed text of a sheet.
 ghost use Rattle.std.specs.Prelude.{◌≡◌, ◌≤◌, true, length, is_ok, IfOk};
 ghost use Rattle.byte_strings.specs.Buffer.{over, count, kept};
-ghost use Rattle.byte_strings.specs.Text.{text_of};
 ghost use Rattle.bench.specs.Page.{page_of, steps_of};
 ghost use Rattle.bench.specs.Replay.{end_told};
 ghost use Rattle.bench.specs.Calls.{answered};
@@ -16,14 +15,14 @@ use steps::system::StepSystem;
 impl Sheet {
     // The length of the text, which ends in the state `end`.
     fn text_len(&self, end: &Held<256>) -> usize
-        ensures value { result ≡ text_length (page_of self.now) (text_of end.now) }
+        ensures value { result ≡ text_length (page_of self.now) end.now }
         ensures bound { result ≤ 5222 }
     {
         let mut n = 0;
-        for i in 0..self.head.len {
-            n += 2 * self.row(i).len() + 3;
+        for step in &self.rows[..self.head.len] {
+            n += 2 * step.items().len() + 3;
         }
-        2 * self.start.text().len() + 5 + (n + (2 * end.text().len() + 1))
+        2 * self.start.items().len() + 5 + (n + (2 * end.items().len() + 1))
     }
 
     // Writes the lines of the steps over the front of `out`, and answers their length.
@@ -34,8 +33,8 @@ impl Sheet {
         ensures buffer { out.new ≡ over (step_lines (S.transitions system.now) (steps_of (page_of self.now))) out.old }
     {
         let mut n = 0;
-        for i in 0..self.head.len {
-            let step = self.row(i);
+        for row in &self.rows[..self.head.len] {
+            let step = row.items();
             let Ok(label) = system.label(step) else {
                 return unreachable();
             };
@@ -71,13 +70,13 @@ impl Sheet {
     // Writes the text, which ends in the state `end`, over the front of `out`.
     fn write_text<S: StepSystem>(&self, system: &S, end: &Held<256>, out: &mut [u8])
         requires replays { is_ok (end_told (S.transitions system.now) (page_of self.now)) ≡ true }
-        requires room { text_length (page_of self.now) (text_of end.now) ≤ length out.old }
-        ensures { out.new ≡ over (sheet_text (S.transitions system.now) (page_of self.now) (text_of end.now)) out.old }
+        requires room { text_length (page_of self.now) end.now ≤ length out.old }
+        ensures { out.new ≡ over (sheet_text (S.transitions system.now) (page_of self.now) end.now) out.old }
     {
-        let start = self.start.text();
+        let start = self.start.items();
         let _ = line::write(&[0, self.head.len as u8], start, out);
         let first = 2 * start.len() + 5;
         let steps = self.print_steps(system, &mut out[first..]);
-        let _ = line::write(&[], end.text(), &mut out[first + steps..]);
+        let _ = line::write(&[], end.items(), &mut out[first + steps..]);
     }
 }

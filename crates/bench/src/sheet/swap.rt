@@ -48,7 +48,7 @@ impl Sheet {
             return Err(BenchFault::Dependent(place as u16));
         };
         let before = self.replay(system, n - 1)?;
-        following(system, &before, neighbours.first.text())?;
+        following(system, &before, neighbours.first.items())?;
         self.rows[n - 1] = neighbours.first;
         self.rows[n] = neighbours.second;
         Ok(())

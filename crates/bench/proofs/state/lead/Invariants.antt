@@ -1,10 +1,6 @@
-use Rattle.std.proofs.Common.{◌≡◌, map, drop}
-use Rattle.byte_strings.specs.Text.{text_of}
-use Rattle.bench.specs.Join.{led}
+use Rattle.std.proofs.Common.{◌≡◌, ◌+◌, drop}
+use Rattle.bench.specs.Lead.{led}
 use Rattle.bench.proofs.state.lead.Given as goal
 
-abbrev pub invariant-loop-step : goal.invariant-loop-step
-invariant-loop-step g l =
-    let t = g.S.StepSystem.transitions l.system in
-    let xs = map text_of l.steps in
-    led t (text_of l.end) (drop l.step-index xs) ≡ led t (text_of l.state) xs
+abbrev pub invariant-loop-i : goal.invariant-loop-i
+invariant-loop-i g l = led (g.S.StepSystem.transitions l.system) l.state (drop l.i l.steps) (l.i + 1) ≡ led (g.S.StepSystem.transitions l.system) l.start l.steps 1

@@ -1,9 +1,6 @@
 use Rattle.std.proofs.Common.{◌≡◌, ◌+◌, ◌-◌, [], ◌∷◌, length, Ok, Err, sym, refl, ap, ◌∙◌, ap₂, arith}
-use Rattle.std.proofs.lemmas.List.{length-map}
 use Rattle.std.proofs.lemmas.Result.{err_from_is_err_and}
 use Rattle.std.proofs.lemmas.Bool.{false≢true}
-use Rattle.byte_strings.specs.Text.{text_of}
-use Rattle.joins.specs.List.{steps_in}
 use Rattle.bench.specs.declared.fault.BenchFault.TheVariants.{WrongStanding}
 use Rattle.bench.specs.Page.{page_of}
 use Rattle.bench.specs.Calls.{answered, after}
@@ -47,26 +44,26 @@ returns-in_err-added g c =
     let q = err_from_is_err_and c.from_residual-in_err-added.result c.from_residual-in_err-added.ensures.1 in
     let e' = page_of c.in-Some.other in
     let named = ap (λ o. joined (g.S.StepSystem.transitions c.args.system.now) (g.S.StepSystem.independence c.args.system.now) (named_page o) p) c.in-Some.is in
-    let e = named ∙ joined_refused (g.S.StepSystem.transitions c.args.system.now) (g.S.StepSystem.independence c.args.system.now) p c.in-Open.is e' c.in_default-standing.not-Blank (text_of c.in_ok-end.end) c.in_ok-end.ensures c.in_err-added.field-0.0 c.in_err-added.ensures.value in
+    let e = named ∙ joined_refused (g.S.StepSystem.transitions c.args.system.now) (g.S.StepSystem.independence c.args.system.now) p c.in-Open.is e' c.in_default-standing.not-Blank c.in_ok-end.end c.in_ok-end.ensures c.in_err-added.field-0.0 c.in_err-added.ensures.value in
     record { answer = ap pair_told (q.1 ∙ ap Err q.2) ∙ sym (ap answered e); page = sym (ap (λ o. after o p) e); untouched = λ _. refl }
 
 pub survivors-requires : goal.survivors-requires
 survivors-requires g c =
-    let both = alike_ok (g.S.StepSystem.transitions c.args.system.now) (page_of c.args.self.now) (page_of c.in-Some.other) (text_of c.in_ok-end.end) (sym c.in_ok-end.ensures) in
+    let both = alike_ok (g.S.StepSystem.transitions c.args.system.now) (page_of c.args.self.now) (page_of c.in-Some.other) c.in_ok-end.end (sym c.in_ok-end.ensures) in
     record { first = both.0; second = both.1 }
 
 pub overflow_sub-shared : goal.overflow_sub-shared
-overflow_sub-shared g c = omega (arith, ap length c.steps-2.ensures.value, length-map c.steps-2.result.now text_of, c.in_ok-added.ensures.few)
+overflow_sub-shared g c = omega (arith, ap length c.items-2.ensures.value, c.in_ok-added.ensures.few)
 
 pub returns : goal.returns
 returns g c =
     let p = page_of c.args.self.now in
     let e' = page_of c.in-Some.other in
     let named = ap (λ o. joined (g.S.StepSystem.transitions c.args.system.now) (g.S.StepSystem.independence c.args.system.now) (named_page o) p) c.in-Some.is in
-    let added = steps_in c.in_ok-added.added in
-    let e = named ∙ joined_done (g.S.StepSystem.transitions c.args.system.now) (g.S.StepSystem.independence c.args.system.now) p c.in-Open.is e' c.in_default-standing.not-Blank (text_of c.in_ok-end.end) c.in_ok-end.ensures added c.in_ok-added.ensures.value in
-    let size : length c.steps.result.now ≡ length added = sym (length-map c.steps.result.now text_of) ∙ ap length c.steps.ensures.value in
-    let size_2 : length c.steps-2.result.now ≡ length added = sym (length-map c.steps-2.result.now text_of) ∙ ap length c.steps-2.ensures.value in
+    let added = c.in_ok-added.added in
+    let e = named ∙ joined_done (g.S.StepSystem.transitions c.args.system.now) (g.S.StepSystem.independence c.args.system.now) p c.in-Open.is e' c.in_default-standing.not-Blank c.in_ok-end.end c.in_ok-end.ensures added c.in_ok-added.ensures.value in
+    let size : length c.items.result.now ≡ length added = ap length c.items.ensures.value in
+    let size_2 : length c.items-2.result.now ≡ length added = ap length c.items-2.ensures.value in
     record {
       answer = ap₂ (λ n k. Ok ((p.len + n) ∷ (e'.len - k) ∷ [])) size size_2 ∙ sym (ap answered e);
       page = c.append.ensures ∙ sym (ap (λ o. after o p) e);

@@ -2,7 +2,6 @@ use Rattle.std.proofs.Common.{◌≡◌, length, is_ok, Ok, Err, sym, ap, ◌∙
 use Rattle.std.proofs.lemmas.Result.{err_from_is_err_and, IfOk-from_err}
 use Rattle.byte_strings.specs.Buffer.{count, kept}
 use Rattle.bench.specs.declared.fault.BenchFault.TheVariants.{WrongStanding, TextTooLong}
-use Rattle.byte_strings.specs.Text.{text_of}
 use Rattle.bench.specs.Page.{page_of}
 use Rattle.bench.specs.Calls.{answered}
 use Rattle.bench.specs.Print.{printed}
@@ -31,14 +30,14 @@ returns-then-len-out g c =
     let p = page_of c.args.self.now in
     let t = g.S.StepSystem.transitions c.args.system.now in
     let l = c.text_len-len.ensures.value in
-    let e = printed_not t p (text_of c.in_ok-end.end) (length c.args.out.now) c.in-Released.is c.in_ok-end.ensures (omega (arith, l)) (omega (arith, l)) in
+    let e = printed_not t p c.in_ok-end.end (length c.args.out.now) c.in-Released.is c.in_ok-end.ensures (omega (arith, l)) (omega (arith, l)) in
     record { answer = ap (λ n. Err (TextTooLong n)) l ∙ sym (ap (λ o. count (answered o)) e); buffer = sym (ap (λ o. kept (answered o) c.args.out.now) e); bound = tt }
 
 pub returns : goal.returns
 returns g c =
     let p = page_of c.args.self.now in
     let t = g.S.StepSystem.transitions c.args.system.now in
-    let a = text_of c.in_ok-end.end in
+    let a = c.in_ok-end.end in
     let l = c.text_len-len.ensures.value in
     let e = printed_text t p a (length c.args.out.now) c.in-Released.is c.in_ok-end.ensures (omega (arith, l)) in
     record { answer = ap Ok (l ∙ sym (text_is_long t p a)) ∙ sym (ap (λ o. count (answered o)) e); buffer = c.write_text.ensures ∙ sym (ap (λ o. kept (answered o) c.args.out.now) e); bound = c.text_len-len.ensures.bound }

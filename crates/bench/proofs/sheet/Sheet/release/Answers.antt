@@ -2,7 +2,6 @@ use Rattle.std.proofs.Common.{◌≡◌, Err, sym, refl, ap, ◌∙◌}
 use Rattle.std.proofs.lemmas.Result.{err_from_is_err_and}
 use Rattle.std.proofs.lemmas.Bool.{false≢true}
 use Rattle.bench.specs.declared.fault.BenchFault.TheVariants.{WrongStanding}
-use Rattle.byte_strings.specs.Text.{text_of}
 use Rattle.bench.specs.Page.{page_of}
 use Rattle.bench.specs.Calls.{released, accepted, after}
 use Rattle.bench.proofs.Calling.{not_open, open_stopped, open_ends}
@@ -24,5 +23,5 @@ returns-in_err-replay g c =
 pub returns : goal.returns
 returns g c =
     let p = page_of c.args.self.now in
-    let e = open_ends p _ (λ _. _) (text_of c.in_ok-replay.field-0) c.in-Open.is c.in_ok-replay.ensures in
+    let e = open_ends p _ (λ _. _) c.in_ok-replay.field-0 c.in-Open.is c.in_ok-replay.ensures in
     record { answer = sym (ap accepted e); page = sym (ap (λ o. after o p) e); untouched = λ h. absurd (false≢true h) }

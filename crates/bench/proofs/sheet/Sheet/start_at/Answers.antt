@@ -4,7 +4,6 @@ use Rattle.std.proofs.lemmas.Bool.{false≢true}
 use Rattle.bench.specs.declared.fault.BenchFault.TheVariants.{WrongStanding}
 use Rattle.steps.specs.Meaning.{Str}
 use Rattle.bench.specs.declared.sheet.Standing.TheVariants.{Open}
-use Rattle.byte_strings.specs.Text.{text_of}
 use Rattle.bench.specs.Page.{Page, page_of}
 use Rattle.byte_strings.proofs.Fitted.{fitted_is}
 use Rattle.bench.specs.Calls.{opened, accepted, after}
@@ -35,4 +34,4 @@ unfolding start_page
 returns g c =
     let p = page_of c.args.self.now in
     let e = opened_at (g.S.StepSystem.transitions c.args.system.now) p c.args.state.now c.in_default.not-Released c.in_ok-state.ensures in
-    record { answer = sym (ap accepted e); page = ap (λ w. start_page w p.rows) (fitted_is c.args.state.now (text_of c.in-Some.start) 256 c.in-Some.ensures) ∙ sym (ap (λ o. after o p) e); untouched = λ h. absurd (false≢true h) }
+    record { answer = sym (ap accepted e); page = ap (λ w. start_page w p.rows) (fitted_is c.args.state.now c.in-Some.start 256 c.in-Some.ensures) ∙ sym (ap (λ o. after o p) e); untouched = λ h. absurd (false≢true h) }

@@ -1,7 +1,6 @@
-use Rattle.std.proofs.Common.{◌≡◌, ℕ, ◌-◌, ◌<◌, List, is_ok, Ok, Err, sym, refl, ap, ◌∙◌, ap₂, arith}
+use Rattle.std.proofs.Common.{◌≡◌, ℕ, ◌-◌, ◌<◌, List, set, is_ok, Ok, Err, sym, refl, ap, ◌∙◌, arith}
 use Rattle.std.proofs.lemmas.Result.{err_from_is_err_and}
 use Rattle.std.proofs.lemmas.Bool.{false≢true}
-use Rattle.byte_strings.specs.Text.{text_of}
 use Rattle.steps.specs.Told.{next_told}
 use Rattle.joins.specs.Exchange.{Pair, neighbours_told}
 use Rattle.bench.specs.declared.fault.BenchFault.TheVariants.{WrongStanding}
@@ -11,7 +10,6 @@ use Rattle.bench.specs.Page.{Page, page_of}
 use Rattle.bench.specs.Calls.{accepted, after}
 use Rattle.bench.specs.Swap.{swapped}
 use Rattle.bench.proofs.Calling.{not_open, open_stopped}
-use Rattle.bench.proofs.Rows.{two_rows}
 use Rattle.bench.proofs.Swapping.{swapped_nowhere, swapped_refused, swapped_dependent, swapped_stopped, swapped_too_long, swapped_done}
 use Rattle.bench.proofs.sheet.Sheet.swap.Goals as goal
 
@@ -34,7 +32,7 @@ returns-in_err-replay g c =
 pub returns-then-n-eq0 : goal.returns-then-n-eq0
 returns-then-n-eq0 g c =
     let p = page_of c.args.self.now in
-    let e = swapped_nowhere (g.S.StepSystem.transitions c.args.system.now) (g.S.StepSystem.independence c.args.system.now) p c.args.place c.in-Open.is (text_of c.in_ok-replay.field-0) c.in_ok-replay.ensures c.then-n-eq0.either in
+    let e = swapped_nowhere (g.S.StepSystem.transitions c.args.system.now) (g.S.StepSystem.independence c.args.system.now) p c.args.place c.in-Open.is c.in_ok-replay.field-0 c.in_ok-replay.ensures c.then-n-eq0.either in
     record { answer = sym (ap accepted e); page = sym (ap (λ o. after o p) e); untouched = λ _. refl }
 
 pub neighbours-requires : goal.neighbours-requires
@@ -46,7 +44,7 @@ returns-in_err-exchanged g c =
     let q = err_from_is_err_and c.from_residual-in_err-exchanged.result c.from_residual-in_err-exchanged.ensures.1 in
     let above : 0 < c.args.place = omega arith in
     let below : c.args.place < p.len = omega arith in
-    let e = swapped_refused (g.S.StepSystem.transitions c.args.system.now) (g.S.StepSystem.independence c.args.system.now) p c.args.place c.in-Open.is (text_of c.in_ok-replay.field-0) c.in_ok-replay.ensures above below c.in_err-exchanged.field-0.0 c.in_err-exchanged.ensures in
+    let e = swapped_refused (g.S.StepSystem.transitions c.args.system.now) (g.S.StepSystem.independence c.args.system.now) p c.args.place c.in-Open.is c.in_ok-replay.field-0 c.in_ok-replay.ensures above below c.in_err-exchanged.field-0.0 c.in_err-exchanged.ensures in
     record { answer = q.1 ∙ ap Err q.2 ∙ sym (ap accepted e); page = sym (ap (λ o. after o p) e); untouched = λ _. refl }
 
 pub returns-in_default-exchanged : goal.returns-in_default-exchanged
@@ -54,7 +52,7 @@ returns-in_default-exchanged g c =
     let p = page_of c.args.self.now in
     let above : 0 < c.args.place = omega arith in
     let below : c.args.place < p.len = omega arith in
-    let e = swapped_dependent (g.S.StepSystem.transitions c.args.system.now) (g.S.StepSystem.independence c.args.system.now) p c.args.place c.in-Open.is (text_of c.in_ok-replay.field-0) c.in_ok-replay.ensures above below (sym (ap (λ o. neighbours_told (Ok o)) c.in_default-exchanged.is) ∙ c.in_ok-exchanged.ensures) in
+    let e = swapped_dependent (g.S.StepSystem.transitions c.args.system.now) (g.S.StepSystem.independence c.args.system.now) p c.args.place c.in-Open.is c.in_ok-replay.field-0 c.in_ok-replay.ensures above below (sym (ap (λ o. neighbours_told (Ok o)) c.in_default-exchanged.is) ∙ c.in_ok-exchanged.ensures) in
     record { answer = sym (ap accepted e); page = sym (ap (λ o. after o p) e); untouched = λ _. refl }
 
 pub returns-in_err-before : goal.returns-in_err-before
@@ -63,9 +61,9 @@ returns-in_err-before g c =
     let q = err_from_is_err_and c.from_residual-in_err-before.result c.from_residual-in_err-before.ensures.1 in
     let above : 0 < c.args.place = omega arith in
     let below : c.args.place < p.len = omega arith in
-    let x : Pair = record { first = text_of c.in-Some.neighbours.first; second = text_of c.in-Some.neighbours.second } in
+    let x : Pair = record { first = c.in-Some.neighbours.first; second = c.in-Some.neighbours.second } in
     let told = sym (ap (λ o. neighbours_told (Ok o)) c.in-Some.is) ∙ c.in_ok-exchanged.ensures in
-    let e = swapped_stopped (g.S.StepSystem.transitions c.args.system.now) (g.S.StepSystem.independence c.args.system.now) p c.args.place c.in-Open.is (text_of c.in_ok-replay.field-0) c.in_ok-replay.ensures above below x told c.in_err-before.field-0.0 c.in_err-before.ensures in
+    let e = swapped_stopped (g.S.StepSystem.transitions c.args.system.now) (g.S.StepSystem.independence c.args.system.now) p c.args.place c.in-Open.is c.in_ok-replay.field-0 c.in_ok-replay.ensures above below x told c.in_err-before.field-0.0 c.in_err-before.ensures in
     record { answer = q.1 ∙ ap Err q.2 ∙ sym (ap accepted e); page = sym (ap (λ o. after o p) e); untouched = λ _. refl }
 
 pub returns-in_err-following : goal.returns-in_err-following
@@ -74,10 +72,10 @@ returns-in_err-following g c =
     let q = err_from_is_err_and c.from_residual-in_err-following.result c.from_residual-in_err-following.ensures.1 in
     let above : 0 < c.args.place = omega arith in
     let below : c.args.place < p.len = omega arith in
-    let x : Pair = record { first = text_of c.in-Some.neighbours.first; second = text_of c.in-Some.neighbours.second } in
+    let x : Pair = record { first = c.in-Some.neighbours.first; second = c.in-Some.neighbours.second } in
     let told = sym (ap (λ o. neighbours_told (Ok o)) c.in-Some.is) ∙ c.in_ok-exchanged.ensures in
-    let next = ap (λ w. next_told (g.S.StepSystem.transitions c.args.system.now) (text_of c.in_ok-before.before) w 256) c.text.ensures.value in
-    let e = swapped_too_long (g.S.StepSystem.transitions c.args.system.now) (g.S.StepSystem.independence c.args.system.now) p c.args.place c.in-Open.is (text_of c.in_ok-replay.field-0) c.in_ok-replay.ensures above below x told (text_of c.in_ok-before.before) c.in_err-following.field-0.0 c.in_ok-before.ensures (c.in_err-following.ensures ∙ next) in
+    let next = ap (λ w. next_told (g.S.StepSystem.transitions c.args.system.now) c.in_ok-before.before w 256) c.items.ensures.value in
+    let e = swapped_too_long (g.S.StepSystem.transitions c.args.system.now) (g.S.StepSystem.independence c.args.system.now) p c.args.place c.in-Open.is c.in_ok-replay.field-0 c.in_ok-replay.ensures above below x told c.in_ok-before.before c.in_err-following.field-0.0 c.in_ok-before.ensures (c.in_err-following.ensures ∙ next) in
     record { answer = q.1 ∙ ap Err q.2 ∙ sym (ap accepted e); page = sym (ap (λ o. after o p) e); untouched = λ _. refl }
 
 pub returns : goal.returns
@@ -86,8 +84,8 @@ returns g c =
     let p = page_of c.args.self.now in
     let above : 0 < c.args.place = omega arith in
     let below : c.args.place < p.len = omega arith in
-    let x : Pair = record { first = text_of c.in-Some.neighbours.first; second = text_of c.in-Some.neighbours.second } in
+    let x : Pair = record { first = c.in-Some.neighbours.first; second = c.in-Some.neighbours.second } in
     let told = sym (ap (λ o. neighbours_told (Ok o)) c.in-Some.is) ∙ c.in_ok-exchanged.ensures in
-    let next = ap (λ w. next_told (g.S.StepSystem.transitions c.args.system.now) (text_of c.in_ok-before.before) w 256) c.text.ensures.value in
-    let e = swapped_done (g.S.StepSystem.transitions c.args.system.now) (g.S.StepSystem.independence c.args.system.now) p c.args.place c.in-Open.is (text_of c.in_ok-replay.field-0) c.in_ok-replay.ensures above below x told (text_of c.in_ok-before.before) (text_of c.in_ok-following.field-0) c.in_ok-before.ensures (c.in_ok-following.ensures ∙ next) in
-    record { answer = sym (ap accepted e); page = ap₂ (λ st r. page_with st p.len p.start r) c.in-Open.is (two_rows c.args.self.now.rows (c.args.place - 1) c.args.place c.in-Some.neighbours.first c.in-Some.neighbours.second) ∙ sym (ap (λ o. after o p) e); untouched = λ h. absurd (false≢true h) }
+    let next = ap (λ w. next_told (g.S.StepSystem.transitions c.args.system.now) c.in_ok-before.before w 256) c.items.ensures.value in
+    let e = swapped_done (g.S.StepSystem.transitions c.args.system.now) (g.S.StepSystem.independence c.args.system.now) p c.args.place c.in-Open.is c.in_ok-replay.field-0 c.in_ok-replay.ensures above below x told c.in_ok-before.before c.in_ok-following.field-0 c.in_ok-before.ensures (c.in_ok-following.ensures ∙ next) in
+    record { answer = sym (ap accepted e); page = ap (λ st. page_with st p.len p.start (set (set c.args.self.now.rows (c.args.place - 1) c.in-Some.neighbours.first) c.args.place c.in-Some.neighbours.second)) c.in-Open.is ∙ sym (ap (λ o. after o p) e); untouched = λ h. absurd (false≢true h) }
