@@ -1,5 +1,6 @@
 -- What a call on one of four sheets answers, and what all four hold afterwards. Assumes nothing.
-use Rattle.std.specs.Prelude.{ℕ, cond, List, map, Some, None, Ok, Err, Option, nat_lt, slice_index_or, slice_set}
+use Rattle.std.specs.Prelude.{ℕ, cond, List, map, Some, None, Ok, Err, Option, Result, nat_lt, slice_index_or, slice_set}
+use Rattle.bench.specs.declared.fault.BenchFault.{BenchFault}
 use Rattle.bench.specs.declared.fault.BenchFault.TheVariants.{NoSheet}
 use Rattle.bench.specs.declared.bench.Bench.{Bench}
 use Rattle.bench.specs.Page.{Page, page_of, blank_page}
@@ -7,6 +8,10 @@ use Rattle.bench.specs.Calls.{Outcome}
 
 abbrev pub pages_of : Bench → List Page
 pages_of b = map page_of b.sheets
+
+-- the index of sheet s, which has to be one of the four
+abbrev pub index_told : ℕ → Result ℕ BenchFault
+index_told s = cond (nat_lt s 4) (Ok s) (Err (NoSheet 1))
 
 -- a call on sheet s, which has to be one of the four
 abbrev pub on_sheet : List Page → ℕ → (Page → Outcome) → Outcome

@@ -6,12 +6,24 @@ ghost use Rattle.bench.specs.Calls.{answered, accepted, opened, added, withdrawn
 ghost use Rattle.bench.specs.Swap.{swapped};
 ghost use Rattle.bench.specs.Join.{named_page, pair_told, joined};
 ghost use Rattle.bench.specs.Print.{printed};
-ghost use Rattle.bench.specs.Table.{pages_of, on_sheet, pages_after, page_at};
+ghost use Rattle.bench.specs.Table.{pages_of, on_sheet, pages_after, page_at, index_told};
 
 use crate::bench::Bench;
 use crate::fault::BenchFault;
 use crate::sheet::Sheet;
 use steps::system::StepSystem;
+
+// The index of the sheet that a call names.
+fn index(sheet: u8) -> Result<usize, BenchFault>
+    ensures { result ≡ index_told sheet }
+{
+    let index = usize::from(sheet);
+    if index < 4 {
+        Ok(index)
+    } else {
+        Err(BenchFault::NoSheet(1))
+    }
+}
 
 impl Bench {
     // Four blank sheets.
@@ -34,10 +46,7 @@ impl Bench {
         ensures pages { pages_of self.new ≡ pages_after (on_sheet (pages_of self.old) sheet (opened (S.transitions system.now) state.now)) (pages_of self.old) sheet }
         ensures untouched { is_err result ≡ true → self.new ≡ self.old }
     {
-        let s = sheet as usize;
-        if s >= 4 {
-            return Err(BenchFault::NoSheet(1));
-        }
+        let s = index(sheet)?;
         self.sheets[s].start_at(system, state)
     }
 
@@ -54,10 +63,7 @@ impl Bench {
         ensures pages { pages_of self.new ≡ pages_after (on_sheet (pages_of self.old) sheet (added (S.transitions system.now) step.now (length out.old))) (pages_of self.old) sheet }
         ensures untouched { is_err result ≡ true → self.new ≡ self.old }
     {
-        let s = sheet as usize;
-        if s >= 4 {
-            return Err(BenchFault::NoSheet(1));
-        }
+        let s = index(sheet)?;
         self.sheets[s].add(system, step, out)
     }
 
@@ -73,10 +79,7 @@ impl Bench {
         ensures pages { pages_of self.new ≡ pages_after (on_sheet (pages_of self.old) sheet (withdrawn (S.transitions system.now) (length out.old))) (pages_of self.old) sheet }
         ensures untouched { is_err result ≡ true → self.new ≡ self.old }
     {
-        let s = sheet as usize;
-        if s >= 4 {
-            return Err(BenchFault::NoSheet(1));
-        }
+        let s = index(sheet)?;
         self.sheets[s].withdraw(system, out)
     }
 
@@ -91,10 +94,7 @@ impl Bench {
         ensures pages { pages_of self.new ≡ pages_after (on_sheet (pages_of self.old) sheet (swapped (S.transitions system.now) (S.independence system.now) place)) (pages_of self.old) sheet }
         ensures untouched { is_err result ≡ true → self.new ≡ self.old }
     {
-        let s = sheet as usize;
-        if s >= 4 {
-            return Err(BenchFault::NoSheet(1));
-        }
+        let s = index(sheet)?;
         self.sheets[s].swap(system, place)
     }
 
@@ -102,11 +102,7 @@ impl Bench {
     fn named(&self, sheet: u8) -> Option<Sheet>
         ensures { named_page result ≡ page_at (pages_of self.now) sheet }
     {
-        let s = sheet as usize;
-        if s >= 4 {
-            return None;
-        }
-        Some(self.sheets[s])
+        self.sheets.get(usize::from(sheet)).copied()
     }
 
     // Joins another sheet into a sheet, and answers the new length and how many steps both had.
@@ -120,10 +116,7 @@ impl Bench {
         ensures pages { pages_of self.new ≡ pages_after (on_sheet (pages_of self.old) sheet (joined (S.transitions system.now) (S.independence system.now) (page_at (pages_of self.old) other))) (pages_of self.old) sheet }
         ensures untouched { is_err result ≡ true → self.new ≡ self.old }
     {
-        let s = sheet as usize;
-        if s >= 4 {
-            return Err(BenchFault::NoSheet(1));
-        }
+        let s = index(sheet)?;
         let from = self.named(other);
         self.sheets[s].join(system, from)
     }
@@ -134,10 +127,7 @@ impl Bench {
         ensures pages { pages_of self.new ≡ pages_after (on_sheet (pages_of self.old) sheet (released (S.transitions system.now))) (pages_of self.old) sheet }
         ensures untouched { is_err result ≡ true → self.new ≡ self.old }
     {
-        let s = sheet as usize;
-        if s >= 4 {
-            return Err(BenchFault::NoSheet(1));
-        }
+        let s = index(sheet)?;
         self.sheets[s].release(system)
     }
 
@@ -147,10 +137,7 @@ impl Bench {
         ensures pages { pages_of self.new ≡ pages_after (on_sheet (pages_of self.old) sheet (reopened (S.transitions system.now))) (pages_of self.old) sheet }
         ensures untouched { is_err result ≡ true → self.new ≡ self.old }
     {
-        let s = sheet as usize;
-        if s >= 4 {
-            return Err(BenchFault::NoSheet(1));
-        }
+        let s = index(sheet)?;
         self.sheets[s].reopen(system)
     }
 
@@ -165,10 +152,7 @@ impl Bench {
         ensures buffer { out.new ≡ kept (answered (on_sheet (pages_of self.now) sheet (printed (S.transitions system.now) (length out.old)))) out.old }
         ensures bound { IfOk result (λ n. n ≤ 5222) }
     {
-        let s = sheet as usize;
-        if s >= 4 {
-            return Err(BenchFault::NoSheet(1));
-        }
+        let s = index(sheet)?;
         self.sheets[s].print(system, out)
     }
 }

@@ -1,18 +1,14 @@
-use Rattle.std.proofs.Common.{◌≡◌, length, sym, ap, ◌∙◌, arith}
+use Rattle.std.proofs.Common.{length, sym, ap, ◌∙◌, arith}
 use Rattle.byte_strings.specs.Buffer.{count, kept}
 use Rattle.bench.specs.Calls.{answered}
 use Rattle.bench.specs.Print.{printed}
 use Rattle.bench.proofs.Tabled.{here}
 use Rattle.bench.proofs.bench.Bench.print.Goals as goal
 
-pub returns : goal.returns
-returns g c =
-    let sheets = c.args.self.now.sheets in
-    let long : length sheets ≡ 4 = omega arith in
-    let call = printed (g.S.StepSystem.transitions c.args.system.now) (length c.args.out.now) in
-    let at = here sheets c.args.sheet c.index-self-s.result c.if-s-ge4.false long call in
-    record {
-      answer = c.print.ensures.answer ∙ sym (ap (λ o. count (answered o)) at);
-      buffer = c.print.ensures.buffer ∙ sym (ap (λ o. kept (answered o) c.args.out.now) at);
-      bound = c.print.ensures.bound;
-    }
+pub returns-clause-answer : goal.returns-clause-answer
+returns-clause-answer g c =
+    c.print.ensures.answer ∙ sym (ap (λ o. count (answered o)) (here c.args.self.now.sheets c.args.sheet c.in_ok-s.s c.in_ok-s.ensures c.index-self-s.result (omega arith) (printed (g.S.StepSystem.transitions c.args.system.now) (length c.args.out.now))))
+
+pub returns-clause-buffer : goal.returns-clause-buffer
+returns-clause-buffer g c =
+    c.print.ensures.buffer ∙ sym (ap (λ o. kept (answered o) c.args.out.now) (here c.args.self.now.sheets c.args.sheet c.in_ok-s.s c.in_ok-s.ensures c.index-self-s.result (omega arith) (printed (g.S.StepSystem.transitions c.args.system.now) (length c.args.out.now))))

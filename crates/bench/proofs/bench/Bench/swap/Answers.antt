@@ -1,17 +1,13 @@
-use Rattle.std.proofs.Common.{◌≡◌, length, sym, ap, ◌∙◌, arith}
+use Rattle.std.proofs.Common.{sym, ap, ◌∙◌, arith}
 use Rattle.bench.specs.Calls.{accepted}
 use Rattle.bench.specs.Swap.{swapped}
-use Rattle.bench.proofs.Tabled.{here, pages_then, same_table}
+use Rattle.bench.proofs.Tabled.{here, pages_then}
 use Rattle.bench.proofs.bench.Bench.swap.Goals as goal
 
-pub returns : goal.returns
-returns g c =
-    let sheets = c.args.self.now.sheets in
-    let long : length sheets ≡ 4 = omega arith in
-    let call = swapped (g.S.StepSystem.transitions c.args.system.now) (g.S.StepSystem.independence c.args.system.now) c.args.place in
-    let d = c.index-self-s.result in
-    record {
-      answer = c.swap.ensures.answer ∙ sym (ap accepted (here sheets c.args.sheet d c.if-s-ge4.false long call));
-      pages = pages_then sheets c.args.sheet d c.if-s-ge4.false long call c.swap.new.self c.swap.ensures.page;
-      untouched = λ h. same_table sheets c.args.sheet d c.if-s-ge4.false long c.swap.new.self (c.swap.ensures.untouched h);
-    }
+pub returns-clause-answer : goal.returns-clause-answer
+returns-clause-answer g c =
+    c.swap.ensures.answer ∙ sym (ap accepted (here c.args.self.now.sheets c.args.sheet c.in_ok-s.s c.in_ok-s.ensures c.index-self-s.result (omega arith) (swapped (g.S.StepSystem.transitions c.args.system.now) (g.S.StepSystem.independence c.args.system.now) c.args.place)))
+
+pub returns-clause-pages : goal.returns-clause-pages
+returns-clause-pages g c =
+    pages_then c.args.self.now.sheets c.args.sheet c.in_ok-s.s c.in_ok-s.ensures c.index-self-s.result (omega arith) (swapped (g.S.StepSystem.transitions c.args.system.now) (g.S.StepSystem.independence c.args.system.now) c.args.place) c.swap.new.self c.swap.ensures.page
