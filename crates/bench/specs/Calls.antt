@@ -5,6 +5,7 @@ use Rattle.steps.specs.declared.fault.MaskFault.{MaskFault}
 use Rattle.steps.specs.Told.{state_told, next_told, state_fits}
 use Rattle.bench.specs.declared.fault.BenchFault.{BenchFault}
 use Rattle.bench.specs.declared.fault.BenchFault.TheVariants.{WrongStanding, System, Full, NoSuchStep}
+use Rattle.bench.specs.declared.sheet.Standing.{Standing}
 use Rattle.bench.specs.declared.sheet.Standing.TheVariants.{Blank, Open, Released}
 use Rattle.bench.specs.Page.{Page}
 use Rattle.bench.specs.Replay.{replayed, end_told}
@@ -46,6 +47,12 @@ when_open p o = elim p.standing [ Blank ↦ Err (WrongStanding 1) | Open ↦ o |
 abbrev pub when_released : Page → Outcome → Outcome
 when_released p o = elim p.standing [ Blank ↦ Err (WrongStanding 1) | Open ↦ Err (WrongStanding 1) | Released ↦ o ]
 
+abbrev pub when_blank : Page → Outcome → Outcome
+when_blank p o = elim p.standing [ Blank ↦ o | Open ↦ Err (WrongStanding 1) | Released ↦ Err (WrongStanding 1) ]
+
+abbrev pub when_standing : Standing → Page → Outcome → Outcome
+when_standing s p o = elim s [ Blank ↦ when_blank p o | Open ↦ when_open p o | Released ↦ when_released p o ]
+
 abbrev pub unless_released : Page → Outcome → Outcome
 unless_released p o = elim p.standing [ Blank ↦ o | Open ↦ o | Released ↦ Err (WrongStanding 1) ]
 
@@ -70,6 +77,10 @@ module _ (t : Transitions) where
       (then (replayed t p.start (take (p.len - 1) p.rows)) (λ a.
       then (from_system (state_fits a n)) (λ b. Ok (record { answer = b; page = record { standing = Open; len = p.len - 1; start = p.start; rows = p.rows } }))))
       (Err (NoSuchStep 0))))
+
+  -- a sheet of one standing is given another
+  abbrev pub restood : Standing → Standing → Page → Outcome
+  restood from to p = when_standing from p (then (end_told t p) (λ _. Ok (record { answer = []; page = record { standing = to; len = p.len; start = p.start; rows = p.rows } })))
 
   abbrev pub released : Page → Outcome
   released p = when_open p (then (end_told t p) (λ _. Ok (record { answer = []; page = record { standing = Released; len = p.len; start = p.start; rows = p.rows } })))

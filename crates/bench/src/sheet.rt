@@ -11,7 +11,7 @@ mod replay;
 mod swap;
 
 // A blank sheet has no run; an open one can be changed; a released one can be printed.
-#[derive(Clone, Copy)]
+#[derive(Clone, Copy, PartialEq, Eq)]
 pub enum Standing {
     Blank,
     Open,

@@ -1,7 +1,7 @@
 // The calls that change a sheet's standing only.
 ghost use Rattle.std.specs.Prelude.{◌≡◌, true, is_err};
 ghost use Rattle.bench.specs.Page.{page_of};
-ghost use Rattle.bench.specs.Calls.{accepted, after, released, reopened};
+ghost use Rattle.bench.specs.Calls.{accepted, after, restood, released, reopened};
 
 use crate::fault::BenchFault;
 use crate::sheet::{Head, Sheet, Standing};
@@ -14,16 +14,7 @@ impl Sheet {
         ensures page { page_of self.new ≡ after (released (S.transitions system.now) (page_of self.old)) (page_of self.old) }
         ensures untouched { is_err result ≡ true → self.new ≡ self.old }
     {
-        let head = self.head;
-        let Standing::Open = head.standing else {
-            return Err(BenchFault::WrongStanding(1));
-        };
-        self.replay(system, head.len)?;
-        self.head = Head {
-            standing: Standing::Released,
-            len: head.len,
-        };
-        Ok(())
+        self.restand(system, Standing::Open, Standing::Released)
     }
 
     // Opens a released sheet again.
@@ -32,13 +23,27 @@ impl Sheet {
         ensures page { page_of self.new ≡ after (reopened (S.transitions system.now) (page_of self.old)) (page_of self.old) }
         ensures untouched { is_err result ≡ true → self.new ≡ self.old }
     {
+        self.restand(system, Standing::Released, Standing::Open)
+    }
+
+    // Gives a sheet of one standing, which replays, another.
+    fn restand<S: StepSystem>(
+        &mut self,
+        system: &S,
+        from: Standing,
+        to: Standing,
+    ) -> Result<(), BenchFault>
+        ensures answer { result ≡ accepted (restood (S.transitions system.now) from to (page_of self.old)) }
+        ensures page { page_of self.new ≡ after (restood (S.transitions system.now) from to (page_of self.old)) (page_of self.old) }
+        ensures untouched { is_err result ≡ true → self.new ≡ self.old }
+    {
         let head = self.head;
-        let Standing::Released = head.standing else {
+        if head.standing != from {
             return Err(BenchFault::WrongStanding(1));
-        };
+        }
         self.replay(system, head.len)?;
         self.head = Head {
-            standing: Standing::Open,
+            standing: to,
             len: head.len,
         };
         Ok(())
