@@ -5,12 +5,11 @@ use Rattle.steps.specs.Meaning.{Str, Transitions}
 use Rattle.steps.specs.declared.fault.MaskFault.{MaskFault}
 use Rattle.steps.specs.Told.{state_told, next_told}
 use Rattle.bench.specs.declared.fault.BenchFault.{BenchFault}
-use Rattle.bench.specs.declared.fault.BenchFault.TheVariants.{Stopped, System}
+use Rattle.bench.specs.declared.fault.BenchFault.TheVariants.{Stopped}
 use Rattle.bench.specs.declared.state.Halt.{Halt}
 use Rattle.bench.specs.Lead.{led}
 use Rattle.bench.specs.Replay.{followed, replayed}
 use Rattle.bench.specs.Join as join_of
-use Rattle.bench.specs.Calls.{from_system}
 
 -- one step on
 then_led : Transitions → Result Str MaskFault → List Str → ℕ → Result Str Halt

@@ -1,12 +1,9 @@
 -- How a join comes out, and the rows that it writes. Assumes nothing.
-use Rattle.std.proofs.Common.{◌≡◌, ℕ, ◌+◌, ◌<◌, ◌≤◌, Bool, true, false, cond, leb, List, [], ◌∷◌, ◌++◌, length, get_or, take, drop, set, is_ok, Some, None, Ok, Err, Decides, Result, sym, refl, ap, ◌∙◌, ap₂, append_assoc, arith}
-use Rattle.std.proofs.lemmas.Slice.Eq.{bytes_eq-Decides}
-use Rattle.std.proofs.lemmas.List.{at_drop_more, at_drop_all, take-append-drop, length-append, length-take-le, take_more, drop_more, set_at}
-use Rattle.std.proofs.lemmas.Bool.{cond-true, cond-false, le-leb, lt-leb, both_ways}
+use Rattle.std.proofs.Common.{◌≡◌, ℕ, ◌+◌, ◌<◌, ◌≤◌, true, cond, leb, List, length, is_ok, Some, None, Ok, Err, Result, sym, refl, ap, ◌∙◌, ap₂}
+use Rattle.std.proofs.lemmas.Bool.{cond-true, cond-false, le-leb, lt-leb}
 use Rattle.std.specs.Str.{bytes_eq}
 use Rattle.steps.specs.Meaning.{Str, Transitions, Independence}
 use Rattle.steps.specs.declared.fault.MaskFault.{MaskFault}
-use Rattle.steps.specs.Told.{next_told}
 use Rattle.steps.proofs.Answered.{ok_not_err}
 use Rattle.runs.specs.Join.{join}
 use Rattle.joins.specs.Join.{added_of}
@@ -17,7 +14,7 @@ use Rattle.bench.specs.declared.sheet.Standing.TheVariants.{Blank, Open, Release
 use Rattle.bench.specs.Page.{Page, steps_of}
 use Rattle.bench.specs.Replay.{end_told}
 use Rattle.bench.specs.Calls.{Outcome, from_system}
-use Rattle.bench.specs.Join.{led, and_then, alike, fitting, surviving, written, merged, unless_blank, joined}
+use Rattle.bench.specs.Join.{led, and_then, alike, fitting, surviving, merged, unless_blank, joined}
 use Rattle.bench.proofs.Calling.{is_open}
 
 and_then_err : {A B : Type 0} (r : Result A BenchFault) (k : A → Result B BenchFault) (f : BenchFault) → Err f ≡ r → and_then r k ≡ Err f
@@ -25,10 +22,6 @@ and_then_err r k f e = sym (ap (λ w. and_then w k) e)
 
 and_then_ok : {A B : Type 0} (r : Result A BenchFault) (k : A → Result B BenchFault) (a : A) → Ok a ≡ r → and_then r k ≡ k a
 and_then_ok r k a e = sym (ap (λ w. and_then w k) e)
-
--- the starts, and the rooms
-pub starts_alike : (t : Transitions) (p e : Page) (a b : Str) (r : Bool) → Ok a ≡ end_told t p → Ok b ≡ end_told t e → r ≡ bytes_eq p.start e.start → alike t p e ≡ cond r (Ok a) (Err StartsDiffer)
-starts_alike t p e a b r first second same = and_then_ok (end_told t p) _ a first ∙ and_then_ok (end_told t e) _ b second ∙ ap (λ s. cond s (Ok a) (Err StartsDiffer)) (sym same)
 
 -- sheets that start alike replay
 pub alike_ok : (t : Transitions) (p e : Page) (a : Str) → alike t p e ≡ Ok a → (is_ok (end_told t p) ≡ true) × (is_ok (end_told t e) ≡ true)
@@ -38,16 +31,6 @@ alike_ok t p e a h = go (end_told t p) (end_told t e) h
     go (Ok b) (Ok c) h = (refl, refl)
     go (Ok b) (Err f) h = ok_not_err a f (sym h)
     go (Err f) s h = ok_not_err a f (sym h)
-
--- two tests of one thing agree
-pub decides_alike : (x y x' y' : Str) (r : Bool) → x ≡ x' → y ≡ y' → Decides r (x ≡ y) → r ≡ bytes_eq x' y'
-decides_alike x y x' y' r ex ey d = go r (bytes_eq x' y') refl d.0 d.1 (bytes_eq-Decides x' y')
-  where
-    go : (r s : Bool) → bytes_eq x' y' ≡ s → (r ≡ true → x ≡ y) → (x ≡ y → r ≡ true) → Decides (bytes_eq x' y') (x' ≡ y') → r ≡ s
-    go true true e f h k = refl
-    go false false e f h k = refl
-    go true false e f h k = absurd (both_ways (bytes_eq x' y') e (k.1 (sym ex ∙ f refl ∙ ey)))
-    go false true e f h k = h (ex ∙ k.0 e ∙ sym ey)
 
 pub both_steps : (i : Independence) (s e s' e' : List Str) → s ≡ s' → e ≡ e' → added_of (join i s e) ≡ added_of (join i s' e')
 both_steps i s e s' e' p q = ap₂ (λ v w. added_of (join i v w)) p q

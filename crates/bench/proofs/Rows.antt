@@ -1,5 +1,5 @@
 -- States that follow, read out of a buffer. Assumes nothing.
-use Rattle.std.proofs.Common.{◌≡◌, ℕ, ◌≤◌, cond, leb, length, take, drop, Some, None, Ok, sym, refl, ap, ◌∙◌, arith}
+use Rattle.std.proofs.Common.{◌≡◌, ℕ, leb, length, take, drop, Some, None, Ok, sym, refl, ap, ◌∙◌}
 use Rattle.std.proofs.lemmas.List.{take_at}
 use Rattle.std.proofs.lemmas.Bool.{cond-true, le-leb}
 use Rattle.byte_strings.specs.Buffer.{Str, count, kept}
@@ -16,9 +16,6 @@ module _ (t : Transitions) (a x bytes zeros : Str) (len : ℕ) (answer : Ok len 
 
   front : take len bytes ≡ next_is.0
   front = ap (λ k. take k bytes) next_is.2 ∙ ap (take (length next_is.0)) (buffer ∙ ap (λ r. kept r zeros) next_is.1) ∙ take_at next_is.0 (drop (length next_is.0) zeros) (length next_is.0) refl
-
-  pub next_short : len ≤ 256
-  next_short = omega (arith, next_is.2, (next_ok t a x next_is.0 256 next_is.1).short)
 
   pub next_held : (w : Str) → Some w ≡ fitted 256 (take len bytes) → Ok w ≡ next_told t a x 256
   next_held w e = ap Ok (fitted_is (take len bytes) w 256 e ∙ front) ∙ sym next_is.1

@@ -1,4 +1,4 @@
-use Rattle.std.proofs.Common.{◌-◌, [], length, sym, ap, ◌∙◌, ap₂, arith}
+use Rattle.std.proofs.Common.{◌-◌, [], ◌∙◌, ap₂, arith}
 use Rattle.std.proofs.lemmas.List.{get_or_default}
 use Rattle.joins.specs.Exchange.{exchanged_told}
 use Rattle.bench.proofs.Replayed.{row_short}

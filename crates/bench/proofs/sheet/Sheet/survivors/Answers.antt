@@ -1,6 +1,4 @@
-use Rattle.std.proofs.Common.{◌≡◌, ◌+◌, ◌<◌, ◌≤◌, length, IfOk, Err, sym, ap, ◌∙◌, subst, arith, length-take}
-use Rattle.std.proofs.lemmas.List.{length-map}
-use Rattle.std.proofs.lemmas.Result.{err_from_is_err_and}
+use Rattle.std.proofs.Common.{◌≡◌, ◌+◌, ◌<◌, ◌≤◌, length, Err, sym, ap, ◌∙◌, subst, arith}
 use Rattle.joins.specs.Steps.{ShortSteps}
 use Rattle.bench.specs.declared.fault.BenchFault.TheVariants.{TooMany}
 use Rattle.bench.specs.Page.{page_of, steps_of}
