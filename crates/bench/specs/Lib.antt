@@ -6,4 +6,4 @@ pub mod Swap
 pub mod Join
 pub mod Table
 pub mod Print
-pub mod Lead
+pub mod Walk

@@ -2,7 +2,7 @@
 ghost use Rattle.std.specs.Prelude.{◌≡◌, ◌≤◌, length};
 ghost use Rattle.byte_strings.specs.Buffer.{count, kept};
 ghost use Rattle.steps.specs.Told.{next_told, state_fits};
-ghost use Rattle.bench.specs.Lead.{led};
+ghost use Rattle.bench.specs.Walk.{walked};
 
 use byte_strings::held::Held;
 use steps::fault::{MaskFault, SystemFault};
@@ -32,13 +32,13 @@ pub(crate) fn following<S: StepSystem>(
 }
 
 // The state that steps lead to, or the first of them, numbered from 1, that does not follow.
-pub(crate) fn lead<S: StepSystem>(
+pub(crate) fn walk<S: StepSystem>(
     system: &S,
     start: &Held<256>,
     steps: &[Held<64>],
 ) -> Result<Held<256>, Halt>
     requires { length steps.now ≤ 32 }
-    ensures { result ≡ led (S.transitions system.now) start.now steps.now 1 }
+    ensures { result ≡ walked (S.transitions system.now) start.now steps.now 1 }
 {
     let mut state = *start;
     for (i, step) in steps.iter().enumerate() {

@@ -7,7 +7,7 @@ ghost use Rattle.bench.specs.Join as join_of;
 
 use crate::fault::BenchFault;
 use crate::sheet::{Head, Sheet, Standing};
-use crate::state::lead;
+use crate::state::walk;
 use byte_strings::held::Held;
 use joins::join::join;
 use joins::list::StepList;
@@ -55,7 +55,7 @@ impl Sheet {
         if len > 32 {
             return Err(BenchFault::TooMany(len as u16));
         }
-        match lead(system, end, added.items()) {
+        match walk(system, end, added.items()) {
             Ok(_) => Ok(added),
             Err(halt) => Err(BenchFault::System(halt.fault)),
         }

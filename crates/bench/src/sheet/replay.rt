@@ -5,7 +5,7 @@ ghost use Rattle.bench.specs.Replay.{replayed};
 
 use crate::fault::BenchFault;
 use crate::sheet::Sheet;
-use crate::state::lead;
+use crate::state::walk;
 use byte_strings::held::Held;
 use steps::system::StepSystem;
 
@@ -23,7 +23,7 @@ impl Sheet {
             return Err(BenchFault::Stopped(0, fault));
         }
         let steps = &self.rows[..count];
-        match lead(system, &self.start, steps) {
+        match walk(system, &self.start, steps) {
             Ok(end) => Ok(end),
             Err(halt) => Err(BenchFault::Stopped(halt.number, halt.fault)),
         }

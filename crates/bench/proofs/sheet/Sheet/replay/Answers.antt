@@ -5,5 +5,5 @@ use Rattle.bench.proofs.sheet.Sheet.replay.Goals as goal
 pub returns-in-Ok : goal.returns-in-Ok
 returns-in-Ok g c = arrives (g.S.StepSystem.transitions c.args.system.now) c.args.self.now.start (take c.args.count c.args.self.now.rows) (sym (rw c.items.ensures.value at c.in_default.ensures)) c.in-Ok.end c.in-Ok.ensures
 
-pub returns-in-Err-lead : goal.returns-in-Err-lead
-returns-in-Err-lead g c = stops (g.S.StepSystem.transitions c.args.system.now) c.args.self.now.start (take c.args.count c.args.self.now.rows) (sym (rw c.items.ensures.value at c.in_default.ensures)) c.in-Err-lead.halt c.in-Err-lead.ensures
+pub returns-in-Err-walk : goal.returns-in-Err-walk
+returns-in-Err-walk g c = stops (g.S.StepSystem.transitions c.args.system.now) c.args.self.now.start (take c.args.count c.args.self.now.rows) (sym (rw c.items.ensures.value at c.in_default.ensures)) c.in-Err-walk.halt c.in-Err-walk.ensures

@@ -42,24 +42,24 @@ returns-then-len-gt32 g c =
       room = tt;
     }
 
-pub returns-in-Err-lead-clause-value : goal.returns-in-Err-lead-clause-value
-returns-in-Err-lead-clause-value g c =
+pub returns-in-Err-walk-clause-value : goal.returns-in-Err-walk-clause-value
+returns-in-Err-walk-clause-value g c =
     let t = g.S.StepSystem.transitions c.args.system.now in
     let i = g.S.StepSystem.independence c.args.system.now in
     let p = page_of c.args.self.now in
     let added = c.in-Ok.added in
     let size : length c.items.result.now ≡ length added = ap length c.items.ensures.value in
     let fits : p.len + length added ≤ 32 = omega arith in
-    let way = blocks t c.args.end.now added c.in-Err-lead.halt (rw c.items-2.ensures.value at c.in-Err-lead.ensures) in
-    sym (stops_on_the_way t i c.args.end.now p (page_of c.args.other.now) added (c.in-Ok.ensures.value ∙ both_steps i _ _ _ _ c.steps.ensures c.steps-2.ensures) fits c.in-Err-lead.halt.fault way)
+    let way = blocks t c.args.end.now added c.in-Err-walk.halt (rw c.items-2.ensures.value at c.in-Err-walk.ensures) in
+    sym (stops_on_the_way t i c.args.end.now p (page_of c.args.other.now) added (c.in-Ok.ensures.value ∙ both_steps i _ _ _ _ c.steps.ensures c.steps-2.ensures) fits c.in-Err-walk.halt.fault way)
 
-pub returns-in-Ok-lead-clause-value : goal.returns-in-Ok-lead-clause-value
-returns-in-Ok-lead-clause-value g c =
+pub returns-in-Ok-walk-clause-value : goal.returns-in-Ok-walk-clause-value
+returns-in-Ok-walk-clause-value g c =
     let t = g.S.StepSystem.transitions c.args.system.now in
     let i = g.S.StepSystem.independence c.args.system.now in
     let p = page_of c.args.self.now in
     let added = c.in-Ok.added in
     let size : length c.items.result.now ≡ length added = ap length c.items.ensures.value in
     let fits : p.len + length added ≤ 32 = omega arith in
-    let way = passes t c.args.end.now added c.in-Ok-lead.field-0 (rw c.items-2.ensures.value at c.in-Ok-lead.ensures) in
-    sym (survives t i c.args.end.now p (page_of c.args.other.now) added (c.in-Ok.ensures.value ∙ both_steps i _ _ _ _ c.steps.ensures c.steps-2.ensures) fits c.in-Ok-lead.field-0 way)
+    let way = passes t c.args.end.now added c.in-Ok-walk.field-0 (rw c.items-2.ensures.value at c.in-Ok-walk.ensures) in
+    sym (survives t i c.args.end.now p (page_of c.args.other.now) added (c.in-Ok.ensures.value ∙ both_steps i _ _ _ _ c.steps.ensures c.steps-2.ensures) fits c.in-Ok-walk.field-0 way)

@@ -1,5 +1,5 @@
 use Rattle.bench.proofs.Following.{leads_on, halts, leads_there}
-use Rattle.bench.proofs.state.lead.Goals as goal
+use Rattle.bench.proofs.state.walk.Goals as goal
 
 pub returns-in-Err : goal.returns-in-Err
 returns-in-Err g c =
