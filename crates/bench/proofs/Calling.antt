@@ -5,15 +5,15 @@ use Rattle.steps.specs.declared.fault.MaskFault.{MaskFault}
 use Rattle.steps.specs.Meaning.{Str, Transitions, Independence}
 use Rattle.steps.specs.Laws.{Laws}
 use Rattle.steps.specs.Told.{state_told, next_told, state_fits}
-use Rattle.steps.proofs.Answered.{next_ok, state_ok, some_not_none}
+use Rattle.steps.proofs.Answered.{ok_not_err, next_ok, state_ok, some_not_none}
 use Rattle.bench.specs.declared.fault.BenchFault.{BenchFault}
 use Rattle.bench.specs.declared.fault.BenchFault.TheVariants.{WrongStanding, System, Full, NoSuchStep}
 use Rattle.bench.specs.declared.sheet.Standing.{Standing}
 use Rattle.bench.specs.declared.sheet.Standing.TheVariants.{Blank, Open, Released}
 use Rattle.bench.specs.Page.{Page}
 use Rattle.byte_strings.specs.Fitted.{fitted}
-use Rattle.bench.specs.Replay.{replayed, end_told}
-use Rattle.bench.specs.Calls.{Outcome, then, from_system, when_open, when_released, unless_released, opened, added, withdrawn}
+use Rattle.bench.specs.Replay.{replayed, end_told, ended}
+use Rattle.bench.specs.Calls.{Outcome, then, from_system, when_open, when_standing, unless_released, opened, added, withdrawn}
 
 pub then_err : (r : Result Str BenchFault) (k : Str → Outcome) (f : BenchFault) → Err f ≡ r → then r k ≡ Err f
 then_err r k f e = sym (ap (λ w. then w k) e)
@@ -33,30 +33,6 @@ module _ (p : Page) where
   pub is_open : (o : Outcome) → p.standing ≡ Open → when_open p o ≡ o
   is_open o e = ap (λ s. elim s as (λ _. Outcome) [ Blank ↦ Err (WrongStanding 1) | Open ↦ o | Released ↦ Err (WrongStanding 1) ]) e
 
-  pub not_released : (o : Outcome) → (p.standing ≡ Released → ⊥) → when_released p o ≡ Err (WrongStanding 1)
-  not_released o h = go p.standing h
-    where
-      go : (s : Standing) → (s ≡ Released → ⊥) → elim s as (λ _. Outcome) [ Blank ↦ Err (WrongStanding 1) | Open ↦ Err (WrongStanding 1) | Released ↦ o ] ≡ Err (WrongStanding 1)
-      go Blank n = refl
-      go Open n = refl
-      go Released n = absurd (n refl)
-
-  is_released : (o : Outcome) → p.standing ≡ Released → when_released p o ≡ o
-  is_released o e = ap (λ s. elim s as (λ _. Outcome) [ Blank ↦ Err (WrongStanding 1) | Open ↦ Err (WrongStanding 1) | Released ↦ o ]) e
-
-  -- the sheet's replay is stopped, or ends
-  pub open_stopped : (r : Result Str BenchFault) (k : Str → Outcome) (f : BenchFault) → p.standing ≡ Open → Err f ≡ r → when_open p (then r k) ≡ Err f
-  open_stopped r k f o e = is_open (then r k) o ∙ then_err r k f e
-
-  pub open_ends : (r : Result Str BenchFault) (k : Str → Outcome) (a : Str) → p.standing ≡ Open → Ok a ≡ r → when_open p (then r k) ≡ k a
-  open_ends r k a o e = is_open (then r k) o ∙ then_ok r k a e
-
-  pub released_stopped : (r : Result Str BenchFault) (k : Str → Outcome) (f : BenchFault) → p.standing ≡ Released → Err f ≡ r → when_released p (then r k) ≡ Err f
-  released_stopped r k f o e = is_released (then r k) o ∙ then_err r k f e
-
-  pub released_ends : (r : Result Str BenchFault) (k : Str → Outcome) (a : Str) → p.standing ≡ Released → Ok a ≡ r → when_released p (then r k) ≡ k a
-  released_ends r k a o e = is_released (then r k) o ∙ then_ok r k a e
-
   pub was_released : (o : Outcome) → p.standing ≡ Released → unless_released p o ≡ Err (WrongStanding 1)
   was_released o e = ap (λ s. elim s as (λ _. Outcome) [ Blank ↦ o | Open ↦ o | Released ↦ Err (WrongStanding 1) ]) e
 
@@ -67,6 +43,56 @@ module _ (p : Page) where
       go Blank n = refl
       go Open n = refl
       go Released n = absurd (n refl)
+
+-- a call on a sheet that has to have a standing, and to replay
+standing_first : (t : Transitions) (s : Standing) (p : Page) (k : Str → Outcome) → when_standing s p (then (end_told t p) k) ≡ then (ended t s p) k
+standing_first t s p k = go s p.standing
+  where
+    go : (s r : Standing) → elim s as (λ _. Outcome) [
+      | Blank ↦ elim r as (λ _. Outcome) [ Blank ↦ then (end_told t p) k | Open ↦ Err (WrongStanding 1) | Released ↦ Err (WrongStanding 1) ]
+      | Open ↦ elim r as (λ _. Outcome) [ Blank ↦ Err (WrongStanding 1) | Open ↦ then (end_told t p) k | Released ↦ Err (WrongStanding 1) ]
+      | Released ↦ elim r as (λ _. Outcome) [ Blank ↦ Err (WrongStanding 1) | Open ↦ Err (WrongStanding 1) | Released ↦ then (end_told t p) k ]
+    ] ≡ then (elim s as (λ _. Result Str BenchFault) [
+      | Blank ↦ elim r as (λ _. Result Str BenchFault) [ Blank ↦ end_told t p | Open ↦ Err (WrongStanding 1) | Released ↦ Err (WrongStanding 1) ]
+      | Open ↦ elim r as (λ _. Result Str BenchFault) [ Blank ↦ Err (WrongStanding 1) | Open ↦ end_told t p | Released ↦ Err (WrongStanding 1) ]
+      | Released ↦ elim r as (λ _. Result Str BenchFault) [ Blank ↦ Err (WrongStanding 1) | Open ↦ Err (WrongStanding 1) | Released ↦ end_told t p ]
+    ]) k
+    go Blank Blank = refl
+    go Blank Open = refl
+    go Blank Released = refl
+    go Open Blank = refl
+    go Open Open = refl
+    go Open Released = refl
+    go Released Blank = refl
+    go Released Open = refl
+    go Released Released = refl
+
+-- such a sheet has that standing
+pub stands : (t : Transitions) (s : Standing) (p : Page) (a : Str) → Ok a ≡ ended t s p → (p.standing ≡ s) × (Ok a ≡ end_told t p)
+stands t s p a = go s p.standing
+  where
+    go : (s r : Standing) → Ok a ≡ elim s as (λ _. Result Str BenchFault) [
+      | Blank ↦ elim r as (λ _. Result Str BenchFault) [ Blank ↦ end_told t p | Open ↦ Err (WrongStanding 1) | Released ↦ Err (WrongStanding 1) ]
+      | Open ↦ elim r as (λ _. Result Str BenchFault) [ Blank ↦ Err (WrongStanding 1) | Open ↦ end_told t p | Released ↦ Err (WrongStanding 1) ]
+      | Released ↦ elim r as (λ _. Result Str BenchFault) [ Blank ↦ Err (WrongStanding 1) | Open ↦ Err (WrongStanding 1) | Released ↦ end_told t p ]
+    ] → (r ≡ s) × (Ok a ≡ end_told t p)
+    go Blank Blank e = (refl, e)
+    go Blank Open e = ok_not_err a _ e
+    go Blank Released e = ok_not_err a _ e
+    go Open Blank e = ok_not_err a _ e
+    go Open Open e = (refl, e)
+    go Open Released e = ok_not_err a _ e
+    go Released Blank e = ok_not_err a _ e
+    go Released Open e = ok_not_err a _ e
+    go Released Released e = (refl, e)
+
+-- it is stopped, or goes on from the end
+module _ (t : Transitions) (s : Standing) (p : Page) (k : Str → Outcome) where
+  pub stopped : (f : BenchFault) → Err f ≡ ended t s p → when_standing s p (then (end_told t p) k) ≡ Err f
+  stopped f e = standing_first t s p k ∙ then_err (ended t s p) k f e
+
+  pub goes_on : (a : Str) → Ok a ≡ ended t s p → when_standing s p (then (end_told t p) k) ≡ k a
+  goes_on a e = standing_first t s p k ∙ then_ok (ended t s p) k a e
 
 -- an opening
 module _ (t : Transitions) (p : Page) (s : Str) (fresh : p.standing ≡ Released → ⊥) where
@@ -82,12 +108,12 @@ module _ (t : Transitions) (p : Page) (s : Str) (fresh : p.standing ≡ Released
   opened_at e = was_not_released p _ fresh ∙ sym (ap told e)
 
 -- an add
-module _ (t : Transitions) (p : Page) (x : Str) (n : ℕ) (is : p.standing ≡ Open) (a : Str) (end : Ok a ≡ end_told t p) where
+module _ (t : Transitions) (p : Page) (x : Str) (n : ℕ) (a : Str) (end : Ok a ≡ ended t Open p) where
   pub added_full : 32 ≤ p.len → added t x n p ≡ Err Full
-  added_full h = open_ends p (end_told t p) _ a is end ∙ cond-false (ltb p.len 32) _ _ (le-ltb p.len 32 h)
+  added_full h = goes_on t Open p _ a end ∙ cond-false (ltb p.len 32) _ _ (le-ltb p.len 32 h)
 
   room : p.len < 32 → added t x n p ≡ then (from_system (next_told t a x n)) (λ b. Ok (record { answer = b; page = record { standing = Open; len = p.len + 1; start = p.start; rows = set p.rows p.len x } }))
-  room h = open_ends p (end_told t p) _ a is end ∙ cond-true (ltb p.len 32) _ _ (lt-ltb p.len 32 h)
+  room h = goes_on t Open p _ a end ∙ cond-true (ltb p.len 32) _ _ (lt-ltb p.len 32 h)
 
   pub added_refused : (f : MaskFault) → p.len < 32 → next_told t a x n ≡ Err f → added t x n p ≡ Err (System f)
   added_refused f h e = room h ∙ then_err _ _ (System f) (sym (ap from_system e))
@@ -96,12 +122,12 @@ module _ (t : Transitions) (p : Page) (x : Str) (n : ℕ) (is : p.standing ≡ O
   added_last b h e = room h ∙ then_ok _ _ b (sym (ap from_system e))
 
 -- a withdrawal
-module _ (t : Transitions) (p : Page) (n : ℕ) (is : p.standing ≡ Open) (z : Str) (end : Ok z ≡ end_told t p) where
+module _ (t : Transitions) (p : Page) (n : ℕ) (z : Str) (end : Ok z ≡ ended t Open p) where
   pub withdrawn_none : p.len ≡ 0 → withdrawn t n p ≡ Err (NoSuchStep 0)
-  withdrawn_none h = open_ends p (end_told t p) _ z is end ∙ cond-false (ltb 0 p.len) _ _ (le-ltb 0 p.len (omega arith))
+  withdrawn_none h = goes_on t Open p _ z end ∙ cond-false (ltb 0 p.len) _ _ (le-ltb 0 p.len (omega arith))
 
   shorter : (0 < p.len) → withdrawn t n p ≡ then (replayed t p.start (take (p.len - 1) p.rows)) (λ a. then (from_system (state_fits a n)) (λ b. Ok (record { answer = b; page = record { standing = Open; len = p.len - 1; start = p.start; rows = p.rows } })))
-  shorter h = open_ends p (end_told t p) _ z is end ∙ cond-true (ltb 0 p.len) _ _ (lt-ltb 0 p.len h)
+  shorter h = goes_on t Open p _ z end ∙ cond-true (ltb 0 p.len) _ _ (lt-ltb 0 p.len h)
 
   pub withdrawn_stopped : (f : BenchFault) → 0 < p.len → Err f ≡ replayed t p.start (take (p.len - 1) p.rows) → withdrawn t n p ≡ Err f
   withdrawn_stopped f h e = shorter h ∙ then_err _ _ f e

@@ -15,10 +15,10 @@ use Rattle.steps.proofs.Answered.{next_ok, label_ok, first_ok}
 use Rattle.bench.specs.declared.fault.BenchFault.{BenchFault}
 use Rattle.bench.specs.declared.fault.BenchFault.TheVariants.{Stopped, TextTooLong}
 use Rattle.bench.specs.declared.sheet.Standing.TheVariants.{Released}
-use Rattle.bench.specs.Replay.{followed, replayed, end_told}
+use Rattle.bench.specs.Replay.{followed, replayed, ended}
 use Rattle.bench.specs.Page.{Page, steps_of}
 use Rattle.bench.specs.Print.{step_line, step_lines, lines_length, sheet_text, text_length, printed}
-use Rattle.bench.proofs.Calling.{released_ends}
+use Rattle.bench.proofs.Calling.{goes_on}
 
 lines_append : (xs ys : List Str) → lines_length (xs ++ ys) ≡ lines_length xs + lines_length ys
 lines_append [] ys = omega arith
@@ -93,14 +93,14 @@ module _ (t : Transitions) (p : Page) (a : Str) where
       ∙ omega (arith, top_length, length-append (step_lines t (steps_of p)) (line a), length_step_lines t (steps_of p), length_line a)
 
   -- asked for in a buffer of n bytes
-  module _ (n : ℕ) (is : p.standing ≡ Released) (end : Ok a ≡ end_told t p) where
+  module _ (n : ℕ) (end : Ok a ≡ ended t Released p) where
     pub printed_not : n < text_length p a → text_length p a ≤ 5222 → printed t n p ≡ Err (TextTooLong (text_length p a))
     printed_not short bound =
-        released_ends p (end_told t p) _ a is end ∙ cond-false (leb (length (sheet_text t p a)) n) _ _ (lt-leb _ _ (omega (arith, text_is_long)))
+        goes_on t Released p _ a end ∙ cond-false (leb (length (sheet_text t p a)) n) _ _ (lt-leb _ _ (omega (arith, text_is_long)))
         ∙ ap (λ k. Err (TextTooLong k)) (ap (λ k. min k 65535) text_is_long ∙ omega arith)
 
     pub printed_text : text_length p a ≤ n → printed t n p ≡ Ok (record { answer = sheet_text t p a; page = p })
-    printed_text fits = released_ends p (end_told t p) _ a is end ∙ cond-true (leb (length (sheet_text t p a)) n) _ _ (le-leb _ _ (omega (arith, text_is_long)))
+    printed_text fits = goes_on t Released p _ a end ∙ cond-true (leb (length (sheet_text t p a)) n) _ _ (le-leb _ _ (omega (arith, text_is_long)))
 
   pub text_written : (out : Str) (room : text_length p a ≤ length out) (s p₁ part₁ part₂ : Str) (first steps : ℕ) → s ≡ p.start → first ≡ 2 * length s + 5 → steps ≡ lines_length (steps_of p)
       → p₁ ≡ copied (line ((0 ∷ p.len ∷ []) ++ s)) out

@@ -9,15 +9,15 @@ use Rattle.bench.specs.declared.fault.BenchFault.{BenchFault}
 use Rattle.bench.specs.declared.fault.BenchFault.TheVariants.{System, NoSuchStep, Dependent}
 use Rattle.bench.specs.declared.sheet.Standing.TheVariants.{Open}
 use Rattle.bench.specs.Page.{Page}
-use Rattle.bench.specs.Replay.{replayed, end_told}
+use Rattle.bench.specs.Replay.{replayed, ended}
 use Rattle.bench.specs.Calls.{from_system}
 use Rattle.bench.specs.Swap.{with_neighbours, exchanged_on, swapped}
-use Rattle.bench.proofs.Calling.{open_ends, then_ok, then_err}
+use Rattle.bench.proofs.Calling.{goes_on, then_ok, then_err}
 
-module _ (t : Transitions) (i : Independence) (p : Page) (n : ℕ) (is : p.standing ≡ Open) (z : Str) (end : Ok z ≡ end_told t p) where
+module _ (t : Transitions) (i : Independence) (p : Page) (n : ℕ) (z : Str) (end : Ok z ≡ ended t Open p) where
   pub swapped_nowhere : (n ≡ 0) ⊎ ((n ≡ 0 → ⊥) × (p.len ≤ n)) → swapped t i n p ≡ Err (NoSuchStep n)
-  swapped_nowhere (inl none) = open_ends p (end_told t p) _ z is end ∙ cond-false (ltb 0 n && ltb n p.len) _ _ (and_left (ltb 0 n) (ltb n p.len) (le-ltb 0 n (omega arith)))
-  swapped_nowhere (inr (some, past)) = open_ends p (end_told t p) _ z is end ∙ cond-false (ltb 0 n && ltb n p.len) _ _ (and_right (ltb 0 n) (ltb n p.len) (le-ltb n p.len past))
+  swapped_nowhere (inl none) = goes_on t Open p _ z end ∙ cond-false (ltb 0 n && ltb n p.len) _ _ (and_left (ltb 0 n) (ltb n p.len) (le-ltb 0 n (omega arith)))
+  swapped_nowhere (inr (some, past)) = goes_on t Open p _ z end ∙ cond-false (ltb 0 n && ltb n p.len) _ _ (and_right (ltb 0 n) (ltb n p.len) (le-ltb n p.len past))
 
   module _ (above : 0 < n) (below : n < p.len) where
     told : Result (Option Pair) MaskFault
@@ -25,7 +25,7 @@ module _ (t : Transitions) (i : Independence) (p : Page) (n : ℕ) (is : p.stand
 
     inside : (r : Result (Option Pair) MaskFault) → r ≡ exchanged_told i (get_or p.rows (n - 1) []) (get_or p.rows n []) → swapped t i n p ≡ exchanged_on t n p r
     inside r e =
-        open_ends p (end_told t p) _ z is end
+        goes_on t Open p _ z end
         ∙ cond-true (ltb 0 n && ltb n p.len) _ _ (and_from (ltb 0 n) (ltb n p.len) (lt-ltb 0 n above) (lt-ltb n p.len below))
         ∙ ap (exchanged_on t n p) (sym e)
 

@@ -3,7 +3,9 @@ use Rattle.std.specs.Prelude.{ℕ, ◌+◌, List, [], ◌∷◌, Ok, Err, Result
 use Rattle.steps.specs.Meaning.{Str, Transitions}
 use Rattle.steps.specs.Told.{state_told, next_told}
 use Rattle.bench.specs.declared.fault.BenchFault.{BenchFault}
-use Rattle.bench.specs.declared.fault.BenchFault.TheVariants.{Stopped}
+use Rattle.bench.specs.declared.fault.BenchFault.TheVariants.{WrongStanding, Stopped}
+use Rattle.bench.specs.declared.sheet.Standing.{Standing}
+use Rattle.bench.specs.declared.sheet.Standing.TheVariants.{Blank, Open, Released}
 use Rattle.bench.specs.Page.{Page, steps_of}
 
 -- the state that steps lead to, the first of them numbered k
@@ -17,3 +19,12 @@ replayed t a xs = elim (state_told t a) [ Ok _ ↦ followed t a xs 1 | Err f ↦
 -- the end of a sheet
 abbrev pub end_told : Transitions → Page → Result Str BenchFault
 end_told t p = replayed t p.start (steps_of p)
+
+-- the end of a sheet that has to have a standing
+abbrev pub ended : Transitions → Standing → Page → Result Str BenchFault
+ended t s p =
+    elim s [
+      | Blank ↦ elim p.standing [ Blank ↦ end_told t p | Open ↦ Err (WrongStanding 1) | Released ↦ Err (WrongStanding 1) ]
+      | Open ↦ elim p.standing [ Blank ↦ Err (WrongStanding 1) | Open ↦ end_told t p | Released ↦ Err (WrongStanding 1) ]
+      | Released ↦ elim p.standing [ Blank ↦ Err (WrongStanding 1) | Open ↦ Err (WrongStanding 1) | Released ↦ end_told t p ]
+    ]

@@ -63,21 +63,18 @@ impl Sheet {
         ensures page { page_of self.new ≡ after (added (S.transitions system.now) step.now (length out.old) (page_of self.old)) (page_of self.old) }
         ensures untouched { is_err result ≡ true → self.new ≡ self.old }
     {
-        let head = self.head;
-        let Standing::Open = head.standing else {
-            return Err(BenchFault::WrongStanding(1));
-        };
-        let end = self.replay(system, head.len)?;
-        if head.len >= 32 {
+        let end = self.end(system, Standing::Open)?;
+        let len = self.head.len;
+        if len >= 32 {
             return Err(BenchFault::Full);
         }
         let n = system.next(end.items(), step, out)?;
-        if !self.rows[head.len].put(step) {
+        if !self.rows[len].put(step) {
             return unreachable();
         }
         self.head = Head {
             standing: Standing::Open,
-            len: head.len + 1,
+            len: len + 1,
         };
         Ok(n)
     }
@@ -93,19 +90,16 @@ impl Sheet {
         ensures page { page_of self.new ≡ after (withdrawn (S.transitions system.now) (length out.old) (page_of self.old)) (page_of self.old) }
         ensures untouched { is_err result ≡ true → self.new ≡ self.old }
     {
-        let head = self.head;
-        let Standing::Open = head.standing else {
-            return Err(BenchFault::WrongStanding(1));
-        };
-        self.replay(system, head.len)?;
-        if head.len == 0 {
+        self.end(system, Standing::Open)?;
+        let len = self.head.len;
+        if len == 0 {
             return Err(BenchFault::NoSuchStep(0));
         }
-        let end = self.replay(system, head.len - 1)?;
-        let n = answer(&end, out)?;
+        let rest = self.replay(system, len - 1)?;
+        let n = answer(&rest, out)?;
         self.head = Head {
             standing: Standing::Open,
-            len: head.len - 1,
+            len: len - 1,
         };
         Ok(n)
     }

@@ -54,11 +54,7 @@ impl Sheet {
         ensures buffer { out.new ≡ kept (answered (printed (S.transitions system.now) (length out.old) (page_of self.now))) out.old }
         ensures bound { IfOk result (λ n. n ≤ 5222) }
     {
-        let head = self.head;
-        let Standing::Released = head.standing else {
-            return Err(BenchFault::WrongStanding(1));
-        };
-        let end = self.replay(system, head.len)?;
+        let end = self.end(system, Standing::Released)?;
         let len = self.text_len(&end);
         if len > out.len() {
             return Err(BenchFault::TextTooLong(len as u16));

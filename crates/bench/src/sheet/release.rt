@@ -37,14 +37,10 @@ impl Sheet {
         ensures page { page_of self.new ≡ after (restood (S.transitions system.now) from to (page_of self.old)) (page_of self.old) }
         ensures untouched { is_err result ≡ true → self.new ≡ self.old }
     {
-        let head = self.head;
-        if head.standing != from {
-            return Err(BenchFault::WrongStanding(1));
-        }
-        self.replay(system, head.len)?;
+        self.end(system, from)?;
         self.head = Head {
             standing: to,
-            len: head.len,
+            len: self.head.len,
         };
         Ok(())
     }

@@ -1,10 +1,10 @@
 // The replay of a sheet in a step system.
 ghost use Rattle.std.specs.Prelude.{◌≡◌, ◌≤◌, take};
 ghost use Rattle.bench.specs.Page.{page_of};
-ghost use Rattle.bench.specs.Replay.{replayed};
+ghost use Rattle.bench.specs.Replay.{replayed, ended};
 
 use crate::fault::BenchFault;
-use crate::sheet::Sheet;
+use crate::sheet::{Sheet, Standing};
 use crate::state::walk;
 use byte_strings::held::Held;
 use steps::system::StepSystem;
@@ -27,5 +27,19 @@ impl Sheet {
             Ok(end) => Ok(end),
             Err(halt) => Err(BenchFault::Stopped(halt.number, halt.fault)),
         }
+    }
+
+    // The end of a sheet of the given standing, or why it has none.
+    pub(crate) fn end<S: StepSystem>(
+        &self,
+        system: &S,
+        standing: Standing,
+    ) -> Result<Held<256>, BenchFault>
+        ensures { result ≡ ended (S.transitions system.now) standing (page_of self.now) }
+    {
+        if self.head.standing != standing {
+            return Err(BenchFault::WrongStanding(1));
+        }
+        self.replay(system, self.head.len)
     }
 }

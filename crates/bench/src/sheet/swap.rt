@@ -34,17 +34,13 @@ impl Sheet {
         ensures page { page_of self.new ≡ after (swapped (S.transitions system.now) (S.independence system.now) place (page_of self.old)) (page_of self.old) }
         ensures untouched { is_err result ≡ true → self.new ≡ self.old }
     {
-        let head = self.head;
-        let Standing::Open = head.standing else {
-            return Err(BenchFault::WrongStanding(1));
-        };
-        self.replay(system, head.len)?;
+        self.end(system, Standing::Open)?;
+        let len = self.head.len;
         let n = place as usize;
-        if n == 0 || n >= head.len {
+        if n == 0 || n >= len {
             return Err(BenchFault::NoSuchStep(place as u16));
         }
-        let exchanged = self.neighbours(system, n)?;
-        let Some(neighbours) = exchanged else {
+        let Some(neighbours) = self.neighbours(system, n)? else {
             return Err(BenchFault::Dependent(place as u16));
         };
         let before = self.replay(system, n - 1)?;

@@ -3,56 +3,50 @@ use Rattle.std.proofs.lemmas.Result.{err_from_is_err_and}
 use Rattle.std.proofs.lemmas.Bool.{false≢true}
 use Rattle.steps.specs.Told.{next_told}
 use Rattle.joins.specs.Exchange.{Pair, neighbours_told}
-use Rattle.bench.specs.declared.fault.BenchFault.TheVariants.{WrongStanding}
+use Rattle.bench.specs.declared.sheet.Standing.TheVariants.{Open}
 use Rattle.steps.specs.Meaning.{Str}
 use Rattle.bench.specs.declared.sheet.Standing.{Standing}
 use Rattle.bench.specs.Page.{Page, page_of}
 use Rattle.bench.specs.Calls.{accepted, after}
 use Rattle.bench.specs.Swap.{swapped}
-use Rattle.bench.proofs.Calling.{not_open, open_stopped}
+use Rattle.bench.proofs.Calling.{stopped, stands}
 use Rattle.bench.proofs.Swapping.{swapped_nowhere, swapped_refused, swapped_dependent, swapped_stopped, swapped_too_long, swapped_done}
 use Rattle.bench.proofs.sheet.Sheet.swap.Goals as goal
 
 page_with : Standing → ℕ → Str → List Str → Page
 page_with st n s rows = record { standing = st; len = n; start = s; rows = rows }
 
-pub returns-in_default : goal.returns-in_default
-returns-in_default g c =
-    let p = page_of c.args.self.now in
-    let e : swapped (g.S.StepSystem.transitions c.args.system.now) (g.S.StepSystem.independence c.args.system.now) c.args.place p ≡ Err (WrongStanding 1) = not_open p _ c.in_default.not-Open in
-    record { answer = sym (ap accepted e); page = sym (ap (λ o. after o p) e); untouched = λ _. refl }
-
-pub returns-in_err-replay : goal.returns-in_err-replay
-returns-in_err-replay g c =
+pub returns-in_err-end : goal.returns-in_err-end
+returns-in_err-end g c =
     let p = page_of c.args.self.now in
     let q = err_from_is_err_and c.from_residual.result c.from_residual.ensures.1 in
-    let e : swapped (g.S.StepSystem.transitions c.args.system.now) (g.S.StepSystem.independence c.args.system.now) c.args.place p ≡ Err c.in_err-replay.field-0.0 = open_stopped p _ _ _ c.in-Open.is c.in_err-replay.ensures in
+    let e : swapped (g.S.StepSystem.transitions c.args.system.now) (g.S.StepSystem.independence c.args.system.now) c.args.place p ≡ Err c.in_err-end.field-0.0 = stopped (g.S.StepSystem.transitions c.args.system.now) Open p _ _ c.in_err-end.ensures in
     record { answer = q.1 ∙ ap Err q.2 ∙ sym (ap accepted e); page = sym (ap (λ o. after o p) e); untouched = λ _. refl }
 
 pub returns-then-n-eq0 : goal.returns-then-n-eq0
 returns-then-n-eq0 g c =
     let p = page_of c.args.self.now in
-    let e = swapped_nowhere (g.S.StepSystem.transitions c.args.system.now) (g.S.StepSystem.independence c.args.system.now) p c.args.place c.in-Open.is c.in_ok-replay.field-0 c.in_ok-replay.ensures c.then-n-eq0.either in
+    let e = swapped_nowhere (g.S.StepSystem.transitions c.args.system.now) (g.S.StepSystem.independence c.args.system.now) p c.args.place c.in_ok-end.field-0 c.in_ok-end.ensures c.then-n-eq0.either in
     record { answer = sym (ap accepted e); page = sym (ap (λ o. after o p) e); untouched = λ _. refl }
 
 pub neighbours-requires : goal.neighbours-requires
-neighbours-requires g c = record { above = omega arith; below = omega arith; replays = sym (ap is_ok c.in_ok-replay.ensures) }
+neighbours-requires g c = record { above = omega arith; below = omega arith; replays = sym (ap is_ok (stands (g.S.StepSystem.transitions c.args.system.now) Open (page_of c.args.self.now) c.in_ok-end.field-0 c.in_ok-end.ensures).1) }
 
-pub returns-in_err-exchanged : goal.returns-in_err-exchanged
-returns-in_err-exchanged g c =
+pub returns-in_err-neighbours : goal.returns-in_err-neighbours
+returns-in_err-neighbours g c =
     let p = page_of c.args.self.now in
-    let q = err_from_is_err_and c.from_residual-in_err-exchanged.result c.from_residual-in_err-exchanged.ensures.1 in
+    let q = err_from_is_err_and c.from_residual-in_err-neighbours.result c.from_residual-in_err-neighbours.ensures.1 in
     let above : 0 < c.args.place = omega arith in
     let below : c.args.place < p.len = omega arith in
-    let e = swapped_refused (g.S.StepSystem.transitions c.args.system.now) (g.S.StepSystem.independence c.args.system.now) p c.args.place c.in-Open.is c.in_ok-replay.field-0 c.in_ok-replay.ensures above below c.in_err-exchanged.field-0.0 c.in_err-exchanged.ensures in
+    let e = swapped_refused (g.S.StepSystem.transitions c.args.system.now) (g.S.StepSystem.independence c.args.system.now) p c.args.place c.in_ok-end.field-0 c.in_ok-end.ensures above below c.in_err-neighbours.field-0.0 c.in_err-neighbours.ensures in
     record { answer = q.1 ∙ ap Err q.2 ∙ sym (ap accepted e); page = sym (ap (λ o. after o p) e); untouched = λ _. refl }
 
-pub returns-in_default-exchanged : goal.returns-in_default-exchanged
-returns-in_default-exchanged g c =
+pub returns-in_default : goal.returns-in_default
+returns-in_default g c =
     let p = page_of c.args.self.now in
     let above : 0 < c.args.place = omega arith in
     let below : c.args.place < p.len = omega arith in
-    let e = swapped_dependent (g.S.StepSystem.transitions c.args.system.now) (g.S.StepSystem.independence c.args.system.now) p c.args.place c.in-Open.is c.in_ok-replay.field-0 c.in_ok-replay.ensures above below (sym (ap (λ o. neighbours_told (Ok o)) c.in_default-exchanged.is) ∙ c.in_ok-exchanged.ensures) in
+    let e = swapped_dependent (g.S.StepSystem.transitions c.args.system.now) (g.S.StepSystem.independence c.args.system.now) p c.args.place c.in_ok-end.field-0 c.in_ok-end.ensures above below (sym (ap (λ o. neighbours_told (Ok o)) c.in_default.is) ∙ c.in_ok-neighbours.ensures) in
     record { answer = sym (ap accepted e); page = sym (ap (λ o. after o p) e); untouched = λ _. refl }
 
 pub returns-in_err-before : goal.returns-in_err-before
@@ -62,8 +56,8 @@ returns-in_err-before g c =
     let above : 0 < c.args.place = omega arith in
     let below : c.args.place < p.len = omega arith in
     let x : Pair = record { first = c.in-Some.neighbours.first; second = c.in-Some.neighbours.second } in
-    let told = sym (ap (λ o. neighbours_told (Ok o)) c.in-Some.is) ∙ c.in_ok-exchanged.ensures in
-    let e = swapped_stopped (g.S.StepSystem.transitions c.args.system.now) (g.S.StepSystem.independence c.args.system.now) p c.args.place c.in-Open.is c.in_ok-replay.field-0 c.in_ok-replay.ensures above below x told c.in_err-before.field-0.0 c.in_err-before.ensures in
+    let told = sym (ap (λ o. neighbours_told (Ok o)) c.in-Some.is) ∙ c.in_ok-neighbours.ensures in
+    let e = swapped_stopped (g.S.StepSystem.transitions c.args.system.now) (g.S.StepSystem.independence c.args.system.now) p c.args.place c.in_ok-end.field-0 c.in_ok-end.ensures above below x told c.in_err-before.field-0.0 c.in_err-before.ensures in
     record { answer = q.1 ∙ ap Err q.2 ∙ sym (ap accepted e); page = sym (ap (λ o. after o p) e); untouched = λ _. refl }
 
 pub returns-in_err-following : goal.returns-in_err-following
@@ -73,9 +67,9 @@ returns-in_err-following g c =
     let above : 0 < c.args.place = omega arith in
     let below : c.args.place < p.len = omega arith in
     let x : Pair = record { first = c.in-Some.neighbours.first; second = c.in-Some.neighbours.second } in
-    let told = sym (ap (λ o. neighbours_told (Ok o)) c.in-Some.is) ∙ c.in_ok-exchanged.ensures in
+    let told = sym (ap (λ o. neighbours_told (Ok o)) c.in-Some.is) ∙ c.in_ok-neighbours.ensures in
     let next = ap (λ w. next_told (g.S.StepSystem.transitions c.args.system.now) c.in_ok-before.before w 256) c.items.ensures.value in
-    let e = swapped_too_long (g.S.StepSystem.transitions c.args.system.now) (g.S.StepSystem.independence c.args.system.now) p c.args.place c.in-Open.is c.in_ok-replay.field-0 c.in_ok-replay.ensures above below x told c.in_ok-before.before c.in_err-following.field-0.0 c.in_ok-before.ensures (c.in_err-following.ensures ∙ next) in
+    let e = swapped_too_long (g.S.StepSystem.transitions c.args.system.now) (g.S.StepSystem.independence c.args.system.now) p c.args.place c.in_ok-end.field-0 c.in_ok-end.ensures above below x told c.in_ok-before.before c.in_err-following.field-0.0 c.in_ok-before.ensures (c.in_err-following.ensures ∙ next) in
     record { answer = q.1 ∙ ap Err q.2 ∙ sym (ap accepted e); page = sym (ap (λ o. after o p) e); untouched = λ _. refl }
 
 pub returns : goal.returns
@@ -85,7 +79,7 @@ returns g c =
     let above : 0 < c.args.place = omega arith in
     let below : c.args.place < p.len = omega arith in
     let x : Pair = record { first = c.in-Some.neighbours.first; second = c.in-Some.neighbours.second } in
-    let told = sym (ap (λ o. neighbours_told (Ok o)) c.in-Some.is) ∙ c.in_ok-exchanged.ensures in
+    let told = sym (ap (λ o. neighbours_told (Ok o)) c.in-Some.is) ∙ c.in_ok-neighbours.ensures in
     let next = ap (λ w. next_told (g.S.StepSystem.transitions c.args.system.now) c.in_ok-before.before w 256) c.items.ensures.value in
-    let e = swapped_done (g.S.StepSystem.transitions c.args.system.now) (g.S.StepSystem.independence c.args.system.now) p c.args.place c.in-Open.is c.in_ok-replay.field-0 c.in_ok-replay.ensures above below x told c.in_ok-before.before c.in_ok-following.field-0 c.in_ok-before.ensures (c.in_ok-following.ensures ∙ next) in
-    record { answer = sym (ap accepted e); page = ap (λ st. page_with st p.len p.start (set (set c.args.self.now.rows (c.args.place - 1) c.in-Some.neighbours.first) c.args.place c.in-Some.neighbours.second)) c.in-Open.is ∙ sym (ap (λ o. after o p) e); untouched = λ h. absurd (false≢true h) }
+    let e = swapped_done (g.S.StepSystem.transitions c.args.system.now) (g.S.StepSystem.independence c.args.system.now) p c.args.place c.in_ok-end.field-0 c.in_ok-end.ensures above below x told c.in_ok-before.before c.in_ok-following.field-0 c.in_ok-before.ensures (c.in_ok-following.ensures ∙ next) in
+    record { answer = sym (ap accepted e); page = ap (λ st. page_with st p.len p.start (set (set c.args.self.now.rows (c.args.place - 1) c.in-Some.neighbours.first) c.args.place c.in-Some.neighbours.second)) (stands (g.S.StepSystem.transitions c.args.system.now) Open p c.in_ok-end.field-0 c.in_ok-end.ensures).0 ∙ sym (ap (λ o. after o p) e); untouched = λ h. absurd (false≢true h) }
