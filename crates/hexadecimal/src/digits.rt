@@ -1,5 +1,5 @@
 // The hexadecimal digits.
-ghost use Rattle.std.specs.Prelude.{◌≡◌, ◌<◌};
+ghost use Rattle.std.specs.Prelude.{◌≡◌, ◌<◌, slice_index};
 ghost use Rattle.hexadecimal.specs.Digits.{digit_of, value_of, byte_of};
 
 // The capital digit of a value below 16.
@@ -26,14 +26,9 @@ fn value(digit: u8) -> Option<u8>
 }
 
 // The byte that two digits spell.
-pub fn byte(high: u8, low: u8) -> Option<u8>
-    ensures { result ≡ byte_of high low }
+pub fn byte(pair: &[u8; 2]) -> Option<u8>
+    ensures { result ≡ byte_of (slice_index pair.now 0) (slice_index pair.now 1) }
 {
-    let Some(high) = value(high) else {
-        return None;
-    };
-    let Some(low) = value(low) else {
-        return None;
-    };
-    Some(16 * high + low)
+    let [high, low] = pair;
+    Some(16 * value(*high)? + value(*low)?)
 }

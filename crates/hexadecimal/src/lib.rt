@@ -18,6 +18,7 @@ pub fn write(bytes: &[u8], out: &mut [u8]) -> Option<usize>
     if out.len() / 2 < bytes.len() {
         return None;
     }
+    // By index: after a loop over `as_chunks_mut` or `chunks_exact_mut`, or down `[high, low, rest @ ..]`, a proof knows no byte of `out` at the return.
     for (i, byte) in bytes.iter().enumerate() {
         out[2 * i] = digits::digit(*byte / 16);
         out[2 * i + 1] = digits::digit(*byte % 16);
@@ -41,16 +42,12 @@ fn fill(line: &[u8], out: &mut [u8]) -> usize
     ensures answer { result ≡ length (take (length out.old) (sound line.now)) }
     ensures buffer { out.new ≡ over (take (length out.old) (sound line.now)) out.old }
 {
-    let mut rest = line;
-    for n in 0..out.len() {
-        let [high, low, tail @ ..] = rest else {
+    let mut bytes = line.as_chunks::<2>().0.iter().map_while(digits::byte);
+    for (n, place) in out.iter_mut().enumerate() {
+        let Some(byte) = bytes.next() else {
             return n;
         };
-        let Some(byte) = digits::byte(*high, *low) else {
-            return n;
-        };
-        out[n] = byte;
-        rest = tail;
+        *place = byte;
     }
     out.len()
 }

@@ -7,8 +7,7 @@ mod tests {
     use bench::fault::BenchFault;
     use merges::call::{Answer, Call};
     use merges::perform::perform;
-    use toys::commuting::Commuting;
-    use toys::sequential::Sequential;
+    use toys::{commuting, sequential};
 
     // An answer as it is compared: an end by its one byte, a refusal by its number and place.
     #[derive(Clone, Copy, PartialEq, Eq, Debug)]
@@ -82,7 +81,7 @@ mod tests {
             Shown::Refused(14, 3),
         ];
         let mut answers = [Answer::Opened; 9];
-        assert!(rt; perform(&Sequential, &calls, &mut answers).is_some());
+        assert!(rt; perform(&sequential::system(), &calls, &mut answers).is_some());
         for (i, answer) in answers.iter().enumerate() {
             assert_eq!(rt; show(answer), expected[i]);
         }
@@ -136,7 +135,7 @@ mod tests {
             Shown::Refused(10, 2),
         ];
         let mut answers = [Answer::Opened; 11];
-        assert!(rt; perform(&Commuting, &calls, &mut answers).is_some());
+        assert!(rt; perform(&commuting::system(), &calls, &mut answers).is_some());
         for (i, answer) in answers.iter().enumerate() {
             assert_eq!(rt; show(answer), expected[i]);
         }

@@ -1,10 +1,10 @@
 -- Bytes that add up: a state is a byte, a step is a byte, and a step leads to their sum, counted round past 255. Assumes nothing.
-use Rattle.std.specs.Prelude.{ℕ, ◌+◌, ◌%◌, false, cond, [], ◌∷◌, is_ok, Ok, Err, Result, nat_lt}
+use Rattle.std.specs.Prelude.{ℕ, ◌+◌, ◌%◌, Bool, false, cond, [], ◌∷◌, is_ok, Some, None, Ok, Err, Option, Result, nat_lt}
 use Rattle.std.specs.Result.{result_err}
 use Rattle.steps.specs.declared.fault.MaskFault.{MaskFault}
 use Rattle.steps.specs.declared.fault.MaskFault.TheVariants.{Inner}
 use Rattle.steps.specs.declared.fault.SystemFault.TheVariants.{NoState, NoStep}
-use Rattle.steps.specs.Meaning.{Str, Transitions}
+use Rattle.steps.specs.Meaning.{Str, Transitions, Independence}
 
 -- the byte that a string is, or the place of the first number that does not fit
 abbrev pub read_byte : Str → Result ℕ ℕ
@@ -39,3 +39,18 @@ state_read (Err p) = Err (Inner (NoState p))
 abbrev pub step_read : Result ℕ ℕ → Result ℕ MaskFault
 step_read (Ok b) = Ok b
 step_read (Err p) = Err (Inner (NoStep p))
+
+-- Two steps are independent where their bytes are apart, and a step stays itself after another.
+module _ (apart : ℕ → ℕ → Bool) where
+  -- a step, where two bytes were read that are apart
+  abbrev pub stays : Str → Result ℕ ℕ → Result ℕ ℕ → Option Str
+  stays x (Ok a) (Ok b) = cond (apart a b) (Some x) None
+  stays x (Ok a) (Err p) = None
+  stays x (Err p) r = None
+
+  abbrev pub sum_independence : Independence
+  sum_independence =
+      record {
+        left = λ x y. stays x (read_byte x) (read_byte y);
+        back = λ x z. stays z (read_byte x) (read_byte z);
+      }

@@ -1,53 +1,34 @@
 // A system in which no two steps are independent.
-ghost use Rattle.toys.specs.Sum.{sum_transitions};
-ghost use Rattle.toys.specs.Sequential.{sequential_independence};
+ghost use Rattle.std.specs.Prelude.{◌≡◌};
 ghost use Rattle.std.proofs.Common.{rules};
+ghost use Rattle.toys.specs.Sequential.{never, sequential_independence};
 
-use crate::sum;
-use steps::fault::MaskFault;
-use steps::label::Label;
+use crate::relation::Relation;
+use crate::sum::Sum;
 use steps::system::StepSystem;
 
-// Steps keep the order in which they came.
+// No two steps are apart.
 #[derive(Clone, Copy)]
-pub struct Sequential;
+pub struct Never;
 
-impl StepSystem for Sequential {
-    ghost transitions = { λ _. sum_transitions };
+impl Relation for Never {
+    ghost apart = { never };
 
-    ghost independence = { λ _. sequential_independence };
+    ghost symmetric = { Prim.search rules };
 
-    ghost lawful = { Prim.search rules };
+    ghost irreflexive = { Prim.search rules };
 
-    fn state(&self, state: &[u8]) -> Result<(), MaskFault> {
-        sum::state(state)
+    fn apart(&self, _a: u8, _b: u8) -> bool {
+        false
     }
+}
 
-    fn step(&self, step: &[u8]) -> Result<(), MaskFault> {
-        sum::step(step)
-    }
+// Steps keep the order in which they came.
+pub type Sequential = Sum<Never>;
 
-    fn label(&self, step: &[u8]) -> Result<Label, MaskFault> {
-        sum::label(step)
-    }
-
-    fn next(&self, state: &[u8], step: &[u8], out: &mut [u8]) -> Result<usize, MaskFault> {
-        sum::next(state, step, out)
-    }
-
-    fn independent(&self, x: &[u8], y: &[u8]) -> Result<bool, MaskFault> {
-        sum::step(x)?;
-        sum::step(y)?;
-        Ok(false)
-    }
-
-    fn residual(&self, x: &[u8], y: &[u8], _out: &mut [u8]) -> Result<Option<usize>, MaskFault> {
-        let _ = self.independent(x, y)?;
-        Ok(None)
-    }
-
-    fn back(&self, x: &[u8], z: &[u8], _out: &mut [u8]) -> Result<Option<usize>, MaskFault> {
-        let _ = self.independent(x, z)?;
-        Ok(None)
-    }
+// The system, with its independence in plain words.
+pub fn system() -> Sequential
+    ensures { ⟦<Sequential as StepSystem>⟧.independence result ≡ sequential_independence }
+{
+    Sum { relation: Never }
 }

@@ -1,12 +1,88 @@
-// What both systems share: a state is a byte, a step is a byte, and a step leads to their sum, counted round past 255.
-ghost use Rattle.std.specs.Prelude.{◌≡◌, length};
-ghost use Rattle.byte_strings.specs.Buffer.{count, kept};
-ghost use Rattle.steps.specs.Told.{state_told, step_told, label_told, next_told};
-ghost use Rattle.toys.specs.Sum.{read_byte, state_read, step_read, sum_transitions};
+// A state is a byte, a step is a byte, and a step leads to their sum, counted round past 255.
+ghost use Rattle.std.specs.Prelude.{◌≡◌, ◌+◌, ◌%◌, [], ◌∷◌, slice_index};
+ghost use Rattle.std.proofs.Common.{rules};
+ghost use Rattle.toys.specs.Sum.{read_byte, state_read, step_read, sum_transitions, sum_independence};
 
+use crate::relation::Relation;
 use byte_strings::buffer;
+use steps::answer::put_step;
 use steps::fault::{MaskFault, SystemFault};
 use steps::label::Label;
+use steps::system::StepSystem;
+
+// Steps that are apart may follow each other in either order.
+#[derive(Clone, Copy)]
+pub struct Sum<R> {
+    pub relation: R,
+}
+
+impl<R: Relation> StepSystem for Sum<R> {
+    ghost transitions = { λ _. sum_transitions };
+
+    ghost independence = { λ _. sum_independence R.apart };
+
+    ghost lawful = { λ _.
+        record {
+          states_told = Prim.search rules;
+          steps_told = Prim.search rules;
+          leads = Prim.search rules;
+          between_steps = Prim.search rules;
+          symmetric = λ x y z h. (y, Prim.search (rules, R.symmetric));
+          irreflexive = Prim.search (rules, R.irreflexive);
+          diamond = λ a b c x y x' y' h k i j. ((slice_index a 0 + slice_index x 0 + slice_index y 0) % 256 ∷ [], Prim.search rules, Prim.search rules);
+          left_step = Prim.search rules;
+          left_label = Prim.search rules;
+          left_length = Prim.search rules;
+          origin = Prim.search rules;
+          origin_possible = λ a b c x y z h k i. ((slice_index a 0 + slice_index y 0) % 256 ∷ [], Prim.search rules);
+          cube = λ x y w x' y' w' w'' h i j k. (w, Prim.search rules, Prim.search rules);
+          independent_before = λ x y w y' w' v h i j. (y, Prim.search rules);
+        } };
+
+    fn state(&self, state: &[u8]) -> Result<(), MaskFault> {
+        let _ = read_state(state)?;
+        Ok(())
+    }
+
+    fn step(&self, step: &[u8]) -> Result<(), MaskFault> {
+        let _ = read_step(step)?;
+        Ok(())
+    }
+
+    // Every step is silent.
+    fn label(&self, step: &[u8]) -> Result<Label, MaskFault> {
+        let _ = read_step(step)?;
+        Ok(Label { action: 0 })
+    }
+
+    fn next(&self, state: &[u8], step: &[u8], out: &mut [u8]) -> Result<usize, MaskFault> {
+        let added = read_step(step)?;
+        let from = read_state(state)?;
+        Ok(buffer::copy(&[from.wrapping_add(added)], out).ok_or(SystemFault::StateTooLong(1))?)
+    }
+
+    fn independent(&self, x: &[u8], y: &[u8]) -> Result<bool, MaskFault> {
+        let first = read_step(x)?;
+        let second = read_step(y)?;
+        Ok(self.relation.apart(first, second))
+    }
+
+    fn residual(&self, x: &[u8], y: &[u8], out: &mut [u8]) -> Result<Option<usize>, MaskFault> {
+        if self.independent(x, y)? {
+            put_step(x, out)
+        } else {
+            Ok(None)
+        }
+    }
+
+    fn back(&self, x: &[u8], z: &[u8], out: &mut [u8]) -> Result<Option<usize>, MaskFault> {
+        if self.independent(x, z)? {
+            put_step(z, out)
+        } else {
+            Ok(None)
+        }
+    }
+}
 
 // The byte that a string is, or the place where it ends too early or goes on too long.
 fn read(string: &[u8]) -> Result<u8, u16>
@@ -23,55 +99,12 @@ fn read(string: &[u8]) -> Result<u8, u16>
 fn read_state(state: &[u8]) -> Result<u8, MaskFault>
     ensures { result ≡ state_read (read_byte state.now) }
 {
-    match read(state) {
-        Ok(byte) => Ok(byte),
-        Err(place) => Err(MaskFault::Inner(SystemFault::NoState(place))),
-    }
+    Ok(read(state).map_err(SystemFault::NoState)?)
 }
 
 // The byte that a step is.
-pub(crate) fn read_step(step: &[u8]) -> Result<u8, MaskFault>
+fn read_step(step: &[u8]) -> Result<u8, MaskFault>
     ensures { result ≡ step_read (read_byte step.now) }
 {
-    match read(step) {
-        Ok(byte) => Ok(byte),
-        Err(place) => Err(MaskFault::Inner(SystemFault::NoStep(place))),
-    }
-}
-
-// Is it a state?
-pub(crate) fn state(state: &[u8]) -> Result<(), MaskFault>
-    ensures { result ≡ state_told sum_transitions state.now }
-{
-    let _ = read_state(state)?;
-    Ok(())
-}
-
-// Is it a step?
-pub(crate) fn step(step: &[u8]) -> Result<(), MaskFault>
-    ensures { result ≡ step_told sum_transitions step.now }
-{
-    let _ = read_step(step)?;
-    Ok(())
-}
-
-// What does the step show? Every step is silent.
-pub(crate) fn label(step: &[u8]) -> Result<Label, MaskFault>
-    ensures { result ≡ label_told sum_transitions step.now }
-{
-    let _ = read_step(step)?;
-    Ok(Label { action: 0 })
-}
-
-// Which state follows by the step? Its length, with the state at the front of `out`.
-pub(crate) fn next(state: &[u8], step: &[u8], out: &mut [u8]) -> Result<usize, MaskFault>
-    ensures answer { result ≡ count (next_told sum_transitions state.now step.now (length out.old)) }
-    ensures buffer { out.new ≡ kept (next_told sum_transitions state.now step.now (length out.old)) out.old }
-{
-    let added = read_step(step)?;
-    let from = read_state(state)?;
-    match buffer::copy(&[from.wrapping_add(added)], out) {
-        Some(n) => Ok(n),
-        None => Err(MaskFault::Inner(SystemFault::StateTooLong(1))),
-    }
+    Ok(read(step).map_err(SystemFault::NoStep)?)
 }
