@@ -5,7 +5,7 @@ ghost use Rattle.toys.specs.Sum.{read_byte, state_read, step_read, sum_transitio
 
 use crate::relation::Relation;
 use byte_strings::buffer;
-use steps::answer::put_step;
+use steps::answer::put_step_if;
 use steps::fault::{MaskFault, SystemFault};
 use steps::label::Label;
 use steps::system::StepSystem;
@@ -40,12 +40,12 @@ impl<R: Relation> StepSystem for Sum<R> {
         } };
 
     fn state(&self, state: &[u8]) -> Result<(), MaskFault> {
-        let _ = read_state(state)?;
+        read_state(state)?;
         Ok(())
     }
 
     fn step(&self, step: &[u8]) -> Result<(), MaskFault> {
-        let _ = read_step(step)?;
+        read_step(step)?;
         Ok(())
     }
 
@@ -68,19 +68,11 @@ impl<R: Relation> StepSystem for Sum<R> {
     }
 
     fn residual(&self, x: &[u8], y: &[u8], out: &mut [u8]) -> Result<Option<usize>, MaskFault> {
-        if self.independent(x, y)? {
-            put_step(x, out)
-        } else {
-            Ok(None)
-        }
+        put_step_if(self.independent(x, y)?, x, out)
     }
 
     fn back(&self, x: &[u8], z: &[u8], out: &mut [u8]) -> Result<Option<usize>, MaskFault> {
-        if self.independent(x, z)? {
-            put_step(z, out)
-        } else {
-            Ok(None)
-        }
+        put_step_if(self.independent(x, z)?, z, out)
     }
 }
 
