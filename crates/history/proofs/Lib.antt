@@ -1,10 +1,16 @@
 mod Turning
 mod Replays
+mod Paths
 mod Unable
 mod Sound
 mod Verdict
 mod Opening
 mod Adding
 mod Withdrawing
+mod Neighbours
+mod Swapping
+mod Merging
+mod Joining
+mod Conflicts
 mod Promised
 mod Performing

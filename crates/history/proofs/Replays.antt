@@ -41,7 +41,7 @@ module _ (t : Transitions) where
   from_start r a xs = elim r [ Ok _ ↦ followed t a xs 1 | Err f ↦ Err (Stopped 0 f) ]
 
   -- a replay that ends started in a state
-  replayed_start : (a : Str) (xs : List Str) (b : Str) → replayed t a xs ≡ Ok b → (state_told t a ≡ Ok tt) × (followed t a xs 1 ≡ Ok b)
+  pub replayed_start : (a : Str) (xs : List Str) (b : Str) → replayed t a xs ≡ Ok b → (state_told t a ≡ Ok tt) × (followed t a xs 1 ≡ Ok b)
   unfolding from_start
   replayed_start a xs b e = go (state_told t a) refl e
     where
@@ -49,7 +49,7 @@ module _ (t : Transitions) where
       go (Ok u) s p = (s, p)
       go (Err f) s p = ok_not_err b (Stopped 0 f) (sym p)
 
-  replayed_from : (a : Str) (xs : List Str) (b : Str) → state_told t a ≡ Ok tt → followed t a xs 1 ≡ Ok b → replayed t a xs ≡ Ok b
+  pub replayed_from : (a : Str) (xs : List Str) (b : Str) → state_told t a ≡ Ok tt → followed t a xs 1 ≡ Ok b → replayed t a xs ≡ Ok b
   unfolding from_start
   replayed_from a xs b s e = ap (λ r. from_start r a xs) s ∙ e
 

@@ -2,7 +2,7 @@
 use Rattle.std.proofs.Common.{◌≡◌, ℕ, ◌<◌, Bool, true, false, cond, ltb, List, map, length, set, Ok, Err, sym, refl, ap, ◌∙◌}
 use Rattle.std.proofs.lemmas.List.{length-set, get_or-set_same, get_or-set_other}
 use Rattle.std.proofs.lemmas.Bool.{ltb-true, ltb-false}
-use Rattle.steps.specs.Meaning.{Transitions}
+use Rattle.steps.specs.Meaning.{Transitions, Independence}
 use Rattle.bench.specs.declared.fault.BenchFault.{BenchFault}
 use Rattle.bench.specs.declared.fault.BenchFault.TheVariants.{NoSheet}
 use Rattle.bench.specs.Page.{Page, blank_page}
@@ -16,15 +16,15 @@ use Rattle.history.specs.Views.{page_view}
 use Rattle.history.specs.Told.{answer_of}
 use Rattle.history.proofs.Sound.{Sound, AllSound, sheet_view, holds_set}
 
-pub data Verdict (t : Transitions) (ls : List Sheet) (c : CallView) : Outcome → Type 0 where
-  turned_down : (f : BenchFault) → Reason t ls c → Verdict t ls c (Err f)
-  carried_out : (d : Done) → sheet_named c < 4 → (Reason t ls c → ⊥) → Sound t d.page → ((after : List Sheet) → Becomes ls after (sheet_named c) (page_view d.page) → Happens t ls after c (answer_of c (Ok d))) → Verdict t ls c (Ok d)
+pub data Verdict (t : Transitions) (i : Independence) (ls : List Sheet) (c : CallView) : Outcome → Type 0 where
+  turned_down : (f : BenchFault) → Reason t i ls c f → Verdict t i ls c (Err f)
+  carried_out : (d : Done) → sheet_named c < 4 → ((f : BenchFault) → Reason t i ls c f → ⊥) → Sound t d.page → ((after : List Sheet) → Becomes ls after (sheet_named c) (page_view d.page) → Happens t i ls after c (answer_of c (Ok d))) → Verdict t i ls c (Ok d)
 
 -- a call is carried out only on one of the four sheets
-pub on_one : (t : Transitions) (ls : List Sheet) (c : CallView) (o : Outcome) → (sheet_named c < 4 → Verdict t ls c o) → Verdict t ls c (cond (ltb (sheet_named c) 4) o (Err (NoSheet 1)))
-on_one t ls c o here = go (ltb (sheet_named c) 4) refl
+pub on_one : (t : Transitions) (i : Independence) (ls : List Sheet) (c : CallView) (o : Outcome) → (sheet_named c < 4 → Verdict t i ls c o) → Verdict t i ls c (cond (ltb (sheet_named c) 4) o (Err (NoSheet 1)))
+on_one t i ls c o here = go (ltb (sheet_named c) 4) refl
   where
-    go : (d : Bool) → ltb (sheet_named c) 4 ≡ d → Verdict t ls c (cond d o (Err (NoSheet 1)))
+    go : (d : Bool) → ltb (sheet_named c) 4 ≡ d → Verdict t i ls c (cond d o (Err (NoSheet 1)))
     go true e = here (ltb-true (sheet_named c) 4 e)
     go false e = turned_down (NoSheet 1) (no_sheet c (ltb-false (sheet_named c) 4 e))
 
@@ -40,7 +40,8 @@ module _ (ps : List Page) (four : length ps ≡ 4) where
       }
 
   -- what happens, and that the pages are as they should be afterwards
-  pub settled : (t : Transitions) (c : CallView) {o : Outcome} → AllSound t ps → Verdict t (map page_view ps) c o → Happens t (map page_view ps) (map page_view (pages_after o ps (sheet_named c))) c (answer_of c o) × (Reason t (map page_view ps) c → (f : BenchFault) × (answer_of c o ≡ refused f)) × (length (pages_after o ps (sheet_named c)) ≡ 4) × AllSound t (pages_after o ps (sheet_named c))
-  settled t c sound (turned_down f why) = (refuses c f refl why, (λ _. (f, refl)), four, sound)
-  settled t c sound (carried_out d within no_reason good does) =
-      (does _ (becomes (sheet_named c) d.page within), (λ why. absurd (no_reason why)), length-set ps (sheet_named c) d.page ∙ four, holds_set (Sound t) ps (sheet_named c) d.page blank_page sound good)
+  pub settled : (t : Transitions) (i : Independence) (c : CallView) {o : Outcome} → AllSound t ps → Verdict t i (map page_view ps) c o
+      → Happens t i (map page_view ps) (map page_view (pages_after o ps (sheet_named c))) c (answer_of c o) × ((f : BenchFault) → Reason t i (map page_view ps) c f → (g : BenchFault) × (answer_of c o ≡ refused g)) × (length (pages_after o ps (sheet_named c)) ≡ 4) × AllSound t (pages_after o ps (sheet_named c))
+  settled t i c sound (turned_down f why) = (refuses c f refl why, (λ _ _. (f, refl)), four, sound)
+  settled t i c sound (carried_out d within no_reason good does) =
+      (does _ (becomes (sheet_named c) d.page within), (λ f why. absurd (no_reason f why)), length-set ps (sheet_named c) d.page ∙ four, holds_set (Sound t) ps (sheet_named c) d.page blank_page sound good)

@@ -14,10 +14,10 @@ pub fn perform<S: StepSystem>(
     calls: &[Call<'_>],
     answers: &mut [Answer],
 ) -> Option<Bench>
-    ensures answer { bench_view result ≡ performed (S.transitions system.now) (map call_view calls.now) (length answers.old) }
-    ensures answers { map answer_view answers.new ≡ answers_after (S.transitions system.now) (map call_view calls.now) (map answer_view answers.old) }
+    ensures answer { bench_view result ≡ performed (S.transitions system.now) (S.independence system.now) (map call_view calls.now) (length answers.old) }
+    ensures answers { map answer_view answers.new ≡ answers_after (S.transitions system.now) (S.independence system.now) (map call_view calls.now) (map answer_view answers.old) }
     ensures untouched { is_some result ≡ false → answers.new ≡ answers.old }
-    ensures promise { Promised (S.transitions system.now) (map call_view calls.now) (length answers.old) (map answer_view (take (length calls.now) answers.new)) result }
+    ensures promise { Promised (S.transitions system.now) (S.independence system.now) (map call_view calls.now) (length answers.old) (map answer_view (take (length calls.now) answers.new)) result }
 {
     if calls.len() > answers.len() {
         return None;

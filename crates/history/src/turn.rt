@@ -12,8 +12,8 @@ use steps::system::StepSystem;
 
 // Performs a call and answers what it gave.
 pub(crate) fn turn<S: StepSystem>(bench: &mut Bench, system: &S, call: &Call<'_>) -> Answer
-    ensures answer { answer_view result ≡ answer_told (S.transitions system.now) (pages_of bench.old) (call_view call.now) }
-    ensures pages { pages_of bench.new ≡ pages_then (S.transitions system.now) (pages_of bench.old) (call_view call.now) }
+    ensures answer { answer_view result ≡ answer_told (S.transitions system.now) (S.independence system.now) (pages_of bench.old) (call_view call.now) }
+    ensures pages { pages_of bench.new ≡ pages_then (S.transitions system.now) (S.independence system.now) (pages_of bench.old) (call_view call.now) }
 {
     match call {
         Call::Open { sheet, state } => match bench.open_sheet(system, *sheet, state) {
@@ -27,6 +27,14 @@ pub(crate) fn turn<S: StepSystem>(bench: &mut Bench, system: &S, call: &Call<'_>
                 Err(fault) => Answer::Refused(fault),
             }
         }
+        Call::Swap { sheet, place } => match bench.swap(system, *sheet, *place) {
+            Ok(()) => Answer::Swapped,
+            Err(fault) => Answer::Refused(fault),
+        },
+        Call::Join { sheet, other } => match bench.join(system, *sheet, *other) {
+            Ok((len, shared)) => Answer::Joined { len, shared },
+            Err(fault) => Answer::Refused(fault),
+        },
         Call::Withdraw { sheet } => {
             let mut end = [0u8; 256];
             match bench.withdraw(system, *sheet, &mut end) {

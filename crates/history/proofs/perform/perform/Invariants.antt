@@ -7,7 +7,8 @@ use Rattle.history.proofs.perform.perform.Given as goal
 abbrev pub invariant-loop-i : goal.invariant-loop-i
 invariant-loop-i g l =
     let t = g.S.StepSystem.transitions l.system in
+    let i = g.S.StepSystem.independence l.system in
     let cs = map call_view l.calls in
-    (pages_told t (pages_of l.bench) (drop l.i cs) ≡ pages_told t new_pages cs)
-    × (map answer_view (take l.i l.answers) ++ answers_told t (pages_of l.bench) (drop l.i cs) ≡ answers_told t new_pages cs)
+    (pages_told t i (pages_of l.bench) (drop l.i cs) ≡ pages_told t i new_pages cs)
+    × (map answer_view (take l.i l.answers) ++ answers_told t i (pages_of l.bench) (drop l.i cs) ≡ answers_told t i new_pages cs)
     × (drop l.i l.answers ≡ drop l.i l.initial.answers)

@@ -31,19 +31,19 @@ use Rattle.bench.specs.Join as join_of
 use Rattle.bench.proofs.Calling.{not_open}
 use Rattle.bench.proofs.Joining.{starts_alike, joined_none, joined_blank, joined_unlike, joined_refused, joined_done, survives, stops_on_the_way}
 use Rattle.bench.proofs.Joining as bench_join
-use Rattle.merges.specs.History.{Sheet, sheet_at, Becomes, Reason, Happens, Ends}
-use Rattle.merges.specs.History.Sheet.{holds}
-use Rattle.merges.specs.History.CallView.{join as join_call}
-use Rattle.merges.specs.History.AnswerView.{joined as joined_answer}
-use Rattle.merges.specs.History.Reason.{no_sheet, no_other, nothing_to_join_to, nothing_to_join, other_start, conflict, too_many, on_the_way_too_long}
-use Rattle.merges.specs.History.Happens.{joins}
-use Rattle.merges.specs.Views.{page_view}
-use Rattle.merges.proofs.Replays.{replayed_start, replayed_run}
-use Rattle.merges.proofs.Paths.{Path, path_append, replayed_path, path_replayed, path_run, path_steps, path_short, led_path, led_too_long}
-use Rattle.merges.proofs.Merging.{joins_short, merged_opposite, written_front, written_long}
-use Rattle.merges.proofs.Sound.{Sound, Stands, blank_or_open, blank_not_open, view_blank, view_open}
-use Rattle.merges.proofs.Verdict.{Verdict}
-use Rattle.merges.proofs.Verdict.Verdict.{turned_down, carried_out}
+use Rattle.history.specs.History.{Sheet, sheet_at, Becomes, Reason, Happens, Ends}
+use Rattle.history.specs.History.Sheet.{holds}
+use Rattle.history.specs.History.CallView.{join as join_call}
+use Rattle.history.specs.History.AnswerView.{joined as joined_answer}
+use Rattle.history.specs.History.Reason.{no_sheet, no_other, nothing_to_join_to, nothing_to_join, other_start, conflict, too_many, on_the_way_too_long}
+use Rattle.history.specs.History.Happens.{joins}
+use Rattle.history.specs.Views.{page_view}
+use Rattle.history.proofs.Replays.{replayed_start, replayed_run}
+use Rattle.history.proofs.Paths.{Path, path_append, replayed_path, path_replayed, path_run, path_steps, path_short, led_path, led_too_long}
+use Rattle.history.proofs.Merging.{joins_short, merged_opposite, written_front, written_long}
+use Rattle.history.proofs.Sound.{Sound, Stands, blank_or_open, blank_not_open, view_blank, view_open}
+use Rattle.history.proofs.Verdict.{Verdict}
+use Rattle.history.proofs.Verdict.Verdict.{turned_down, carried_out}
 
 -- Two open pages with one start, and what a join of them comes to.
 module _ {t : Transitions} {i : Independence} (laws : Laws t i) (p q : Page) (is_p : p.standing ≡ Open) (is_q : q.standing ≡ Open) (b c : Str) (to_b : end_told t p ≡ Ok b) (to_c : end_told t q ≡ Ok c) (same : p.start ≡ q.start) where

@@ -16,7 +16,7 @@ use Rattle.bench.specs.declared.fault.BenchFault.TheVariants.{Stopped}
 use Rattle.bench.specs.Replay.{followed, replayed}
 use Rattle.bench.specs.Join.{led}
 use Rattle.bench.proofs.Following.{then_followed}
-use Rattle.merges.proofs.Replays.{replayed_start, replayed_from}
+use Rattle.history.proofs.Replays.{replayed_start, replayed_from}
 
 pub data Path (t : Transitions) : Str → List Str → Str → Type 0 where
   here : {a : Str} → Path t a [] a

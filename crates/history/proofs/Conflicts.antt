@@ -16,15 +16,15 @@ use Rattle.bench.specs.Replay.{end_told}
 use Rattle.bench.specs.Calls.{Outcome}
 use Rattle.bench.specs.Join as join_of
 use Rattle.bench.specs.Table.{page_at}
-use Rattle.merges.specs.History.{sheet_at}
-use Rattle.merges.specs.History.Sheet.{holds}
-use Rattle.merges.specs.History.CallView.{join}
-use Rattle.merges.specs.History.AnswerView.{refused}
-use Rattle.merges.specs.Views.{page_view}
-use Rattle.merges.specs.Told.{outcome, answer_of, answer_told}
-use Rattle.merges.proofs.Replays.{replayed_run}
-use Rattle.merges.proofs.Sound.{AllSound, blank_or_open, view_blank, view_open, sheet_view}
-use Rattle.merges.proofs.Joining.{conflict_told}
+use Rattle.history.specs.History.{sheet_at}
+use Rattle.history.specs.History.Sheet.{holds}
+use Rattle.history.specs.History.CallView.{join}
+use Rattle.history.specs.History.AnswerView.{refused}
+use Rattle.history.specs.Views.{page_view}
+use Rattle.history.specs.Told.{outcome, answer_of, answer_told}
+use Rattle.history.proofs.Replays.{replayed_run}
+use Rattle.history.proofs.Sound.{AllSound, blank_or_open, view_blank, view_open, sheet_view}
+use Rattle.history.proofs.Joining.{conflict_told}
 
 -- a sheet is there, or there is none of that number
 pub there : (ps : List Page) (e : ℕ) → ((page_at ps e ≡ None) × (4 ≤ e)) ⊎ ((page_at ps e ≡ Some (get_or ps e blank_page)) × (e < 4))

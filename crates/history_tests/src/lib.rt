@@ -1,12 +1,12 @@
 // Lists of calls over two small step systems: one in which no steps are independent, and one in which all different ones are.
-// It rests on `merges` and `toys`; what the answers should be is worked out by hand.
+// It rests on `history` and `toys`; what the answers should be is worked out by hand.
 #![tactic(auto)]
 
 #[cfg(test)]
 mod tests {
     use bench::fault::BenchFault;
-    use merges::call::{Answer, Call};
-    use merges::perform::perform;
+    use history::call::{Answer, Call};
+    use history::perform::perform;
     use toys::commuting::Commuting;
     use toys::sequential::Sequential;
 

@@ -26,20 +26,20 @@ use Rattle.bench.specs.Swap.{with_neighbours}
 use Rattle.bench.specs.Swap as swap_of
 use Rattle.bench.proofs.Calling.{not_open}
 use Rattle.bench.proofs.Swapping.{swapped_nowhere, swapped_refused, swapped_dependent, swapped_too_long, swapped_done}
-use Rattle.merges.specs.History.{Sheet, sheet_at, Becomes, Reason}
-use Rattle.merges.specs.History.Sheet.{holds}
-use Rattle.merges.specs.History.CallView.{swap}
-use Rattle.merges.specs.History.Reason.{no_sheet, nothing_to_swap, no_neighbours, dependent, between_too_long}
-use Rattle.merges.specs.History.Reason.{swapped_too_long as step_over}
-use Rattle.merges.specs.History.Happens.{swaps}
-use Rattle.merges.specs.Views.{page_view}
-use Rattle.merges.proofs.Replays.{replayed_start}
-use Rattle.merges.proofs.Paths.{Path, path_append, path_split, replayed_path, path_replayed, path_run, next_within, next_over, next_state}
-use Rattle.merges.proofs.Paths.Path.{along}
-use Rattle.merges.proofs.Neighbours.{split_two, split_other, front_long, two_at}
-use Rattle.merges.proofs.Sound.{Sound, blank_or_open, blank_not_open, view_blank, view_open}
-use Rattle.merges.proofs.Verdict.{Verdict}
-use Rattle.merges.proofs.Verdict.Verdict.{turned_down, carried_out}
+use Rattle.history.specs.History.{Sheet, sheet_at, Becomes, Reason}
+use Rattle.history.specs.History.Sheet.{holds}
+use Rattle.history.specs.History.CallView.{swap}
+use Rattle.history.specs.History.Reason.{no_sheet, nothing_to_swap, no_neighbours, dependent, between_too_long}
+use Rattle.history.specs.History.Reason.{swapped_too_long as step_over}
+use Rattle.history.specs.History.Happens.{swaps}
+use Rattle.history.specs.Views.{page_view}
+use Rattle.history.proofs.Replays.{replayed_start}
+use Rattle.history.proofs.Paths.{Path, path_append, path_split, replayed_path, path_replayed, path_run, next_within, next_over, next_state}
+use Rattle.history.proofs.Paths.Path.{along}
+use Rattle.history.proofs.Neighbours.{split_two, split_other, front_long, two_at}
+use Rattle.history.proofs.Sound.{Sound, blank_or_open, blank_not_open, view_blank, view_open}
+use Rattle.history.proofs.Verdict.{Verdict}
+use Rattle.history.proofs.Verdict.Verdict.{turned_down, carried_out}
 
 module _ {t : Transitions} {i : Independence} (laws : Laws t i) (ls : List Sheet) (s n : ℕ) (p : Page) (within : s < 4) (view : sheet_at ls s ≡ page_view p) (sound : Sound t p) where
   on_blank : p.standing ≡ Blank → Verdict t i ls (swap s n) (swap_of.swapped t i n p)
