@@ -1,4 +1,3 @@
-mod Turning
 mod Replays
 mod Paths
 mod Unable

@@ -1,7 +1,8 @@
 -- Calls, answers and sheets as the history sees them. Assumes nothing.
-use Rattle.std.specs.Prelude.{ℕ, ◌<◌, List, map, length, Some, None, Option}
+use Rattle.std.specs.Prelude.{ℕ, ◌<◌, List, map, length, Some, None, Ok, Err, Option, Result}
 use Rattle.steps.specs.Meaning.{Transitions, Independence}
 use Rattle.bench.specs.declared.bench.Bench.{Bench}
+use Rattle.bench.specs.declared.fault.BenchFault.{BenchFault}
 use Rattle.bench.specs.Table.{pages_of}
 use Rattle.byte_strings.specs.Text.{text_of}
 use Rattle.bench.specs.Page.{Page, steps_of}
@@ -22,12 +23,12 @@ call_view (call.Swap sheet place) = swap sheet place
 call_view (call.Withdraw sheet) = withdraw sheet
 call_view (call.Join sheet other) = join sheet other
 
-abbrev pub answer_view : Answer → AnswerView
-answer_view answer.Opened = opened
-answer_view (answer.Ends state) = ends (text_of state)
-answer_view answer.Swapped = swapped
-answer_view (answer.Joined len shared) = joined len shared
-answer_view (answer.Refused fault) = refused fault
+abbrev pub answer_view : Result Answer BenchFault → AnswerView
+answer_view (Ok answer.Opened) = opened
+answer_view (Ok (answer.Ends state)) = ends (text_of state)
+answer_view (Ok answer.Swapped) = swapped
+answer_view (Ok (answer.Joined len shared)) = joined len shared
+answer_view (Err fault) = refused fault
 
 -- a sheet that has a run holds it, open or released
 abbrev pub page_view : Page → Sheet

@@ -1,5 +1,4 @@
 // A call on a sheet, and what it is answered.
-use bench::fault::BenchFault;
 use byte_strings::held::Held;
 
 // A call: the sheet that it may change, and what is given with it.
@@ -12,13 +11,12 @@ pub enum Call<'a> {
     Join { sheet: u8, other: u8 },
 }
 
-// What a call is answered: that the sheet is open, the end of its run, that its steps were exchanged, its new length
-// and how many steps were shared, or why the call is refused.
+// What a call that is not refused is answered: that the sheet is open, the end of its run, that its steps were exchanged,
+// or its new length and how many steps were shared.
 #[derive(Clone, Copy)]
 pub enum Answer {
     Opened,
     Ends(Held<256>),
     Swapped,
     Joined { len: u8, shared: u8 },
-    Refused(BenchFault),
 }

@@ -20,16 +20,16 @@ mod tests {
         Refused(u8, u16),
     }
 
-    fn show(answer: &Answer) -> Shown {
+    fn show(answer: &Result<Answer, BenchFault>) -> Shown {
         match answer {
-            Answer::Opened => Shown::Opened,
-            Answer::Ends(state) => match state.text() {
+            Ok(Answer::Opened) => Shown::Opened,
+            Ok(Answer::Ends(state)) => match state.text() {
                 [byte] => Shown::Ends(*byte),
                 _ => Shown::Ends(0),
             },
-            Answer::Swapped => Shown::Swapped,
-            Answer::Joined { len, shared } => Shown::Joined(*len, *shared),
-            Answer::Refused(fault) => refused(*fault),
+            Ok(Answer::Swapped) => Shown::Swapped,
+            Ok(Answer::Joined { len, shared }) => Shown::Joined(*len, *shared),
+            Err(fault) => refused(*fault),
         }
     }
 
@@ -81,10 +81,10 @@ mod tests {
             Shown::Ends(12),
             Shown::Refused(14, 3),
         ];
-        let mut answers = [Answer::Opened; 9];
+        let mut answers = [Ok(Answer::Opened); 9];
         assert!(rt; perform(&Sequential, &calls, &mut answers).is_some());
-        for (i, answer) in answers.iter().enumerate() {
-            assert_eq!(rt; show(answer), expected[i]);
+        for (answer, shown) in answers.iter().zip(expected) {
+            assert_eq!(rt; show(answer), shown);
         }
     }
 
@@ -135,10 +135,10 @@ mod tests {
             Shown::Ends(8),
             Shown::Refused(10, 2),
         ];
-        let mut answers = [Answer::Opened; 11];
+        let mut answers = [Ok(Answer::Opened); 11];
         assert!(rt; perform(&Commuting, &calls, &mut answers).is_some());
-        for (i, answer) in answers.iter().enumerate() {
-            assert_eq!(rt; show(answer), expected[i]);
+        for (answer, shown) in answers.iter().zip(expected) {
+            assert_eq!(rt; show(answer), shown);
         }
     }
 }
