@@ -24,6 +24,7 @@ pub fn perform<S: StepSystem>(
         return None;
     }
     let mut bench = Bench::new();
+    // By index: after a loop over `answers.iter_mut().zip(calls)`, `answers[..calls.len()].iter_mut().zip(calls)` or `calls.iter().zip(answers)` a proof knows how many answers there are, but none of them.
     for (i, call) in calls.iter().enumerate() {
         answers[i] = turn::turn(&mut bench, system, call);
     }
