@@ -1,7 +1,7 @@
 -- An add on one page. Assumes the laws of a step system.
-use Rattle.std.proofs.Common.{◌≡◌, ℕ, ◌+◌, ◌<◌, ◌≤◌, Bool, true, false, ltb, ◌⊎◌, List, [], ◌∷◌, ◌++◌, length, take, set, Ok, Err, Result, sym, refl, ap, ◌∙◌, subst, inl, inr, arith}
+use Rattle.std.proofs.Common.{◌≡◌, ℕ, ◌+◌, ◌<◌, ◌≤◌, ◌⊎◌, List, [], ◌∷◌, ◌++◌, length, take, set, Ok, Err, Result, sym, refl, ap, ◌∙◌, subst, inl, inr, arith}
 use Rattle.std.proofs.lemmas.List.{length-set, length-take, take_more_set}
-use Rattle.std.proofs.lemmas.Bool.{ltb-true, ltb-false}
+use Rattle.std.proofs.lemmas.Bool.{cases_lt}
 use Rattle.steps.specs.declared.fault.MaskFault.{MaskFault}
 use Rattle.steps.specs.Meaning.{Str, Transitions, Independence}
 use Rattle.steps.specs.Laws.{Laws}
@@ -25,15 +25,15 @@ use Rattle.history.specs.Views.{page_view}
 use Rattle.history.proofs.Replays.{replayed_run, replayed_snoc}
 use Rattle.history.proofs.Unable.{Unable, unable}
 use Rattle.history.proofs.Unable.Unable.{no_step as not_a_step, impossible as not_possible, too_long as over_long}
-use Rattle.history.proofs.Sound.{Sound, blank_or_open, blank_not_open, view_blank, view_open}
+use Rattle.history.proofs.Sound.{Sound, by_standing, blank_not_open, view_blank, view_open}
 use Rattle.history.proofs.Verdict.{Verdict}
 use Rattle.history.proofs.Verdict.Verdict.{turned_down, carried_out}
 
 module _ {t : Transitions} {i : Independence} (laws : Laws t i) (ls : List Sheet) (s : ℕ) (p : Page) (within : s < 4) (view : sheet_at ls s ≡ page_view p) (sound : Sound t p) (x : Str) where
   on_blank : p.standing ≡ Blank → Verdict t i ls (add s x) (added t x 256 p)
   on_blank e =
-      subst (Verdict t i ls (add s x)) (sym (not_open p _ (blank_not_open p e)))
-      (turned_down (WrongStanding 1) (nothing_to_add_to s x (view ∙ view_blank p e)))
+      turned_down (WrongStanding 1) (not_open p _ (blank_not_open p e))
+      (nothing_to_add_to s x (view ∙ view_blank p e))
 
   module _ (e : p.standing ≡ Open) (b : Str) (r : end_told t p ≡ Ok b) where
     held : sheet_at ls s ≡ holds p.start (steps_of p)
@@ -44,8 +44,8 @@ module _ {t : Transitions} {i : Independence} (laws : Laws t i) (ls : List Sheet
 
     on_full : 32 ≤ p.len → Verdict t i ls (add s x) (added t x 256 p)
     on_full many =
-        subst (Verdict t i ls (add s x)) (sym (added_full t p x 256 e b (sym r) many))
-        (turned_down Full (full s x p.start (steps_of p) held (omega (arith, length-take p.len p.rows, sound.long))))
+        turned_down Full (added_full t p x 256 e b (sym r) many)
+        (full s x p.start (steps_of p) held (omega (arith, length-take p.len p.rows, sound.long)))
 
     why : {f : MaskFault} → Unable t b x f → Reason t i ls (add s x) (System f)
     why (not_a_step f n) = no_step s x f n
@@ -54,8 +54,8 @@ module _ {t : Transitions} {i : Independence} (laws : Laws t i) (ls : List Sheet
 
     not_followed : (f : MaskFault) → p.len < 32 → next_told t b x 256 ≡ Err f → Verdict t i ls (add s x) (added t x 256 p)
     not_followed f lt n =
-        subst (Verdict t i ls (add s x)) (sym (added_refused t p x 256 e b (sym r) f lt n))
-        (turned_down (System f) (why (unable laws b x (replayed_run laws p.start (steps_of p) b r).1 f n)))
+        turned_down (System f) (added_refused t p x 256 e b (sym r) f lt n)
+        (why (unable laws b x (replayed_run laws p.start (steps_of p) b r).1 f n))
 
     grown : p.len < 32 → take (p.len + 1) (set p.rows p.len x) ≡ steps_of p ++ x ∷ []
     grown lt = take_more_set p.rows p.len x (omega (arith, sound.long))
@@ -69,7 +69,7 @@ module _ {t : Transitions} {i : Independence} (laws : Laws t i) (ls : List Sheet
 
       no_reason : (f : BenchFault) → Reason t i ls (add s x) f → ⊥
       no_reason f (no_sheet c past) = omega (arith, within, past)
-      no_reason f (nothing_to_add_to s x h) = let z : ◌≡◌ {A = ℕ} 0 1 = cc (h, held) in omega arith
+      no_reason f (nothing_to_add_to s x h) = cc (h, held)
       no_reason f (no_step s x _ w) = let f = next_ok t b x c 256 n in w ((laws.steps_told x).0 (f.shaped, f.shown))
       no_reason f (full s x a xs h many) =
           let steps : xs ≡ steps_of p = cc (h, held) in
@@ -84,19 +84,15 @@ module _ {t : Transitions} {i : Independence} (laws : Laws t i) (ls : List Sheet
     followed_by : (c : Str) → p.len < 32 → next_told t b x 256 ≡ Ok c → Verdict t i ls (add s x) (added t x 256 p)
     followed_by c lt n =
         let more = replayed_snoc t p.start (steps_of p) b x c r n in
-        subst (Verdict t i ls (add s x)) (sym (added_last t p x 256 e b (sym r) c lt n))
-        (carried_out _ within (no_reason c lt n)
+        carried_out _ (added_last t p x 256 e b (sym r) c lt n)
+        within (no_reason c lt n)
         (record { long = length-set p.rows p.len x ∙ sound.long; few = omega arith; stands = (c, subst (λ xs. replayed t p.start xs ≡ Ok c) (sym (grown lt)) more) })
-        (λ after q. adds s x p.start (steps_of p) c held (subst (λ xs. Becomes ls after s (holds p.start xs)) (grown lt) q) (replayed_run laws p.start (steps_of p ++ x ∷ []) c more).0))
+        (λ after q. adds s x p.start (steps_of p) c held (subst (λ xs. Becomes ls after s (holds p.start xs)) (grown lt) q) (replayed_run laws p.start (steps_of p ++ x ∷ []) c more).0)
 
-    on_open : (d : Bool) → ltb p.len 32 ≡ d → (q : Result Str MaskFault) → next_told t b x 256 ≡ q → Verdict t i ls (add s x) (added t x 256 p)
-    on_open false l q n = on_full (ltb-false p.len 32 l)
-    on_open true l (Err f) n = not_followed f (ltb-true p.len 32 l) n
-    on_open true l (Ok c) n = followed_by c (ltb-true p.len 32 l) n
+    on_open : (p.len < 32) ⊎ (32 ≤ p.len) → (q : Result Str MaskFault) → next_told t b x 256 ≡ q → Verdict t i ls (add s x) (added t x 256 p)
+    on_open (inr many) q n = on_full many
+    on_open (inl lt) (Err f) n = not_followed f lt n
+    on_open (inl lt) (Ok c) n = followed_by c lt n
 
   pub adding : Verdict t i ls (add s x) (added t x 256 p)
-  adding = go (blank_or_open sound)
-    where
-      go : (p.standing ≡ Blank) ⊎ ((p.standing ≡ Open) × ((b : Str) × (end_told t p ≡ Ok b))) → Verdict t i ls (add s x) (added t x 256 p)
-      go (inl e) = on_blank e
-      go (inr (e, (b, r))) = on_open e b r (ltb p.len 32) refl (next_told t b x 256) refl
+  adding = by_standing sound on_blank (λ e b r. on_open e b r (cases_lt p.len 32) (next_told t b x 256) refl)

@@ -1,5 +1,5 @@
-mod Replays
 mod Paths
+mod Replays
 mod Unable
 mod Sound
 mod Verdict

@@ -1,5 +1,5 @@
 -- An opening on one page. Assumes the laws of a step system.
-use Rattle.std.proofs.Common.{◌≡◌, ℕ, ◌<◌, List, Ok, Err, Result, sym, refl, ◌∙◌, subst, arith}
+use Rattle.std.proofs.Common.{◌≡◌, ℕ, ◌<◌, List, Ok, Err, Result, sym, refl, ◌∙◌, arith}
 use Rattle.steps.specs.declared.fault.MaskFault.{MaskFault}
 use Rattle.steps.specs.Meaning.{Str, Transitions, Independence}
 use Rattle.steps.specs.Laws.{Laws}
@@ -29,8 +29,8 @@ module _ {t : Transitions} {i : Independence} (laws : Laws t i) (ls : List Sheet
     where
       go : (r : Result (Unit {0}) MaskFault) → state_told t a ≡ r → Verdict t i ls (open_sheet s a) (opened t a p)
       go (Ok u) e =
-          subst (Verdict t i ls (open_sheet s a)) (sym (opened_at t p a (not_released sound) (sym e)))
-          (carried_out _ within (no_reason a e) (record { long = sound.long; few = omega arith; stands = (a, replayed_none t a e) }) (λ after b. opens s a b))
+          carried_out _ (opened_at t p a (not_released sound) (sym e))
+          within (no_reason a e) (record { long = sound.long; few = omega arith; stands = (a, replayed_none t a e) }) (λ after b. opens s a b)
       go (Err f) e =
-          subst (Verdict t i ls (open_sheet s a)) (sym (opened_refused t p a (not_released sound) f (sym e)))
-          (turned_down (System f) (no_state s a f (λ w. ok_not_err tt f (sym (state_told_ok t a ((laws.states_told a).1 w)) ∙ e))))
+          turned_down (System f) (opened_refused t p a (not_released sound) f (sym e))
+          (no_state s a f (λ w. ok_not_err tt f (sym (state_told_ok t a ((laws.states_told a).1 w)) ∙ e)))

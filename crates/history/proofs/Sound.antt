@@ -1,5 +1,5 @@
 -- Pages that the calls leave: none is released, and what an open one holds replays. Assumes nothing.
-use Rattle.std.proofs.Common.{◌≡◌, ℕ, zero, suc, ◌≤◌, ◌⊎◌, List, [], ◌∷◌, map, length, get_or, set, replicate, Ok, sym, refl, ap, subst, inl, inr, arith}
+use Rattle.std.proofs.Common.{◌≡◌, ℕ, zero, suc, ◌≤◌, List, [], ◌∷◌, map, length, get_or, set, replicate, Ok, sym, refl, ap, subst, arith}
 use Rattle.steps.specs.Meaning.{Str, Transitions}
 use Rattle.bench.specs.declared.sheet.Standing.{Standing}
 use Rattle.bench.specs.declared.sheet.Standing.TheVariants.{Blank, Open, Released}
@@ -27,16 +27,17 @@ module _ {t : Transitions} {p : Page} (sound : Sound t p) where
   pub not_released : p.standing ≡ Released → ⊥
   not_released e = subst (Stands t p) e sound.stands
 
-  pub blank_or_open : (p.standing ≡ Blank) ⊎ ((p.standing ≡ Open) × ((b : Str) × (end_told t p ≡ Ok b)))
-  blank_or_open = go p.standing refl sound.stands
+  -- it is blank, or open, and then it replays
+  pub by_standing : {P : Type 0} → (p.standing ≡ Blank → P) → (p.standing ≡ Open → (b : Str) → end_told t p ≡ Ok b → P) → P
+  by_standing {P} on_blank on_open = go p.standing refl sound.stands
     where
-      go : (st : Standing) → p.standing ≡ st → Stands t p st → (p.standing ≡ Blank) ⊎ ((p.standing ≡ Open) × ((b : Str) × (end_told t p ≡ Ok b)))
-      go Blank e s = inl e
-      go Open e s = inr (e, s)
+      go : (st : Standing) → p.standing ≡ st → Stands t p st → P
+      go Blank e s = on_blank e
+      go Open e s = on_open e s.0 s.1
       go Released e s = absurd s
 
 pub blank_not_open : (p : Page) → p.standing ≡ Blank → p.standing ≡ Open → ⊥
-blank_not_open p e o = let z : ◌≡◌ {A = ℕ} 0 1 = cc in omega arith
+blank_not_open p e o = cc
 
 viewed : Standing → Page → Sheet
 viewed st p = elim st [ Blank ↦ blank | Open ↦ holds p.start (steps_of p) | Released ↦ holds p.start (steps_of p) ]
