@@ -13,3 +13,4 @@ mod Joining
 mod Conflicts
 mod Promised
 mod Performing
+mod PlainCalls
