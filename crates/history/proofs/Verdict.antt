@@ -14,7 +14,7 @@ use Rattle.history.specs.History.Happens.{refuses}
 use Rattle.history.specs.History.AnswerView.{refused}
 use Rattle.history.specs.Views.{page_view}
 use Rattle.history.specs.Told.{answer_of}
-use Rattle.history.proofs.Sound.{Sound, AllSound, sheet_view, holds_set}
+use Rattle.history.proofs.Sound.{Sound, AllSound, sheet_view, sound_set}
 
 pub data Verdict (t : Transitions) (i : Independence) (ls : List Sheet) (c : CallView) (o : Outcome) : Type 0 where
   turned_down : (f : BenchFault) → o ≡ Err f → Reason t i ls c f → Verdict t i ls c o
@@ -54,5 +54,5 @@ module _ (ps : List Page) (four : length ps ≡ 4) where
         happens = does _ (becomes (sheet_named c) d.page within);
         refused_where_due = λ f why. absurd (no_reason f why);
         four = length-set ps (sheet_named c) d.page ∙ four;
-        sound = holds_set (Sound t) ps (sheet_named c) d.page blank_page sound good;
+        sound = sound_set ps (sheet_named c) d.page (rw four within) sound good;
       })

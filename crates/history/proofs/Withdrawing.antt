@@ -29,10 +29,13 @@ module _ {t : Transitions} {i : Independence} (laws : Laws t i) (ls : List Sheet
       (nothing_to_withdraw s (view ∙ view_blank p e))
 
   module _ (e : p.standing ≡ Open) (z : Str) (r : end_told t p ≡ Ok z) where
+    held : sheet_at ls s ≡ holds p.start (steps_of p)
+    held = view ∙ view_open p e
+
     on_none : p.len ≡ 0 → Verdict t i ls (withdraw s) (withdrawn t 256 p)
     on_none none =
         turned_down (NoSuchStep 0) (withdrawn_none t p 256 e z (sym r) none)
-        (no_steps s p.start (view ∙ view_open p e ∙ ap (λ n. holds p.start (take n p.rows)) none))
+        (no_steps s p.start (held ∙ ap (λ n. holds p.start (take n p.rows)) none))
 
     last : 0 < p.len → steps_of p ≡ take (p.len - 1) p.rows ++ get_or p.rows (p.len - 1) [] ∷ []
     last some =
@@ -41,9 +44,8 @@ module _ {t : Transitions} {i : Independence} (laws : Laws t i) (ls : List Sheet
 
     no_reason : 0 < p.len → (f : BenchFault) → Reason t i ls (withdraw s) f → ⊥
     no_reason some f (no_sheet c past) = omega (arith, within, past)
-    no_reason some f (nothing_to_withdraw s h) = let held = view ∙ view_open p e in cc (h, held)
+    no_reason some f (nothing_to_withdraw s h) = cc (h, held)
     no_reason some f (no_steps s a h) =
-        let held = view ∙ view_open p e in
         let steps : [] ≡ steps_of p = cc (h, held) in
         omega (arith, ap length (steps ∙ last some), length-append (take (p.len - 1) p.rows) (get_or p.rows (p.len - 1) [] ∷ []))
 
@@ -55,7 +57,7 @@ module _ {t : Transitions} {i : Independence} (laws : Laws t i) (ls : List Sheet
         carried_out _ (withdrawn_last t p 256 e z (sym r) u.0 u.0 some (sym u.1) (replayed_fits laws p.start xs u.0 u.1))
         within (no_reason some)
         (record { long = sound.long; few = omega (arith, sound.few); stands = (u.0, u.1) })
-        (λ after q. withdraws s p.start xs x u.0 (view ∙ view_open p e ∙ ap (holds p.start) (last some)) q (replayed_run laws p.start xs u.0 u.1).0)
+        (λ after q. withdraws s p.start xs x u.0 (held ∙ ap (holds p.start) (last some)) q (replayed_run laws p.start xs u.0 u.1).0)
 
     on_open : (0 < p.len) ⊎ (p.len ≤ 0) → Verdict t i ls (withdraw s) (withdrawn t 256 p)
     on_open (inl some) = on_some some
