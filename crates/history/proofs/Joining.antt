@@ -112,12 +112,10 @@ module _ {t : Transitions} {i : Independence} (laws : Laws t i) (ls : List Sheet
     held_p = view_p ∙ view_open p is_p
 
     on_none : 4 ≤ e → Verdict t i ls (join_call s e) (join_of.joined t i None p)
-    on_none past = turned_down (NoSheet 2) (joined_none t i p is_p)
-        (no_other s e past)
+    on_none past = turned_down (NoSheet 2) (joined_none t i p is_p) (no_other s e past)
 
     on_blank_other : q.standing ≡ Blank → Verdict t i ls (join_call s e) (join_of.joined t i (Some q) p)
-    on_blank_other blank = turned_down (WrongStanding 2) (joined_blank t i p is_p q blank)
-        (nothing_to_join s e (view_q ∙ view_blank q blank))
+    on_blank_other blank = turned_down (WrongStanding 2) (joined_blank t i p is_p q blank) (nothing_to_join s e (view_q ∙ view_blank q blank))
 
     module _ (few : e < 4) (is_q : q.standing ≡ Open) (c : Str) (to_c : end_told t q ≡ Ok c) where
       held_q : sheet_at ls e ≡ holds q.start (steps_of q)

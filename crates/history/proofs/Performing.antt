@@ -29,7 +29,10 @@ module _ {t : Transitions} {i : Independence} {cs : List CallView} {old now : Li
       }
 
   -- all calls are performed
-  module _ (all : length cs ≤ n) where
+  module _ (whole : n ≡ length cs) where
+    all : length cs ≤ n
+    all = omega arith
+
     pub all_pages : ps ≡ pages_told t i new_pages cs
     all_pages = sym (at_drop_all (pages_told t i ps) cs n all) ∙ so_far.pages
 
@@ -37,8 +40,8 @@ module _ {t : Transitions} {i : Independence} {cs : List CallView} {old now : Li
     all_answers = sym (append-nil (map answer_view (take n now))) ∙ ap (λ l. map answer_view (take n now) ++ l) (sym (at_drop_all (answers_told t i ps) cs n all)) ∙ so_far.written
 
     -- their answers stand over the front of the old ones
-    pub all_written : n ≡ length cs → length cs ≤ length old → map answer_view now ≡ answers_after t i cs (map answer_view old)
-    all_written whole room =
+    pub all_written : length cs ≤ length old → map answer_view now ≡ answers_after t i cs (map answer_view old)
+    all_written room =
         ap (map answer_view) (sym (take-append-drop n now))
         ∙ map-append answer_view (take n now) (drop n now)
         ∙ ap (λ l. l ++ map answer_view (drop n now)) all_answers

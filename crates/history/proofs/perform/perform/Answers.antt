@@ -1,4 +1,4 @@
-use Rattle.std.proofs.Common.{◌≡◌, ◌≤◌, [], map, length, take, ap, ◌∙◌, arith}
+use Rattle.std.proofs.Common.{◌≡◌, [], map, length, take, ap, ◌∙◌, arith}
 use Rattle.std.proofs.lemmas.List.{get_or-map, length-map}
 use Rattle.history.specs.History.CallView.{open_sheet}
 use Rattle.history.specs.Views.{call_view, answer_view}
@@ -15,11 +15,11 @@ loop-i-preserved g c =
 pub returns-clause-answers : goal.returns-clause-answers
 returns-clause-answers g c =
     let long = length-map c.args.calls.now call_view in
-    all_written c.loop-i.invariant (omega (arith, long)) (omega (arith, long)) (omega (arith, long))
+    all_written c.loop-i.invariant (omega (arith, long)) (omega (arith, long))
 
 pub returns-clause-promise : goal.returns-clause-promise
 returns-clause-promise g c =
-    let long = length-map c.args.calls.now call_view in
-    let all : length (map call_view c.args.calls.now) ≤ c.loop-i.i = omega (arith, long) in
-    let whole : length c.args.calls.now ≡ c.loop-i.i = omega arith in
-    promised (g.met.S.StepSystem.lawful c.args.system.now) (map call_view c.args.calls.now) _ _ (ap (λ n. map answer_view (take n c.loop-i.answers)) whole ∙ all_answers c.loop-i.invariant all) (all_pages c.loop-i.invariant all)
+    let calls = c.args.calls.now in
+    let each : length calls ≡ c.loop-i.i = omega arith in
+    let whole : c.loop-i.i ≡ length (map call_view calls) = omega (arith, length-map calls call_view) in
+    promised (g.met.S.StepSystem.lawful c.args.system.now) (map call_view calls) _ _ (ap (λ n. map answer_view (take n c.loop-i.answers)) each ∙ all_answers c.loop-i.invariant whole) (all_pages c.loop-i.invariant whole)
