@@ -1,4 +1,4 @@
-mod Turning
+mod Paths
 mod Replays
 mod Unable
 mod Sound
@@ -6,5 +6,11 @@ mod Verdict
 mod Opening
 mod Adding
 mod Withdrawing
+mod Neighbours
+mod Swapping
+mod Merging
+mod Joining
+mod Conflicts
 mod Promised
 mod Performing
+mod PlainCalls

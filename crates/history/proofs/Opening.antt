@@ -1,10 +1,11 @@
 -- An opening on one page. Assumes the laws of a step system.
-use Rattle.std.proofs.Common.{◌≡◌, ℕ, ◌<◌, List, Ok, Err, Result, sym, refl, ◌∙◌, subst, arith}
+use Rattle.std.proofs.Common.{◌≡◌, ℕ, ◌<◌, List, Ok, Err, Result, sym, refl, ◌∙◌, arith}
 use Rattle.steps.specs.declared.fault.MaskFault.{MaskFault}
 use Rattle.steps.specs.Meaning.{Str, Transitions, Independence}
 use Rattle.steps.specs.Laws.{Laws}
 use Rattle.steps.specs.Told.{state_told}
 use Rattle.steps.proofs.Answered.{ok_not_err, state_ok}
+use Rattle.bench.specs.declared.fault.BenchFault.{BenchFault}
 use Rattle.bench.specs.declared.fault.BenchFault.TheVariants.{System}
 use Rattle.bench.specs.Page.{Page}
 use Rattle.bench.specs.Calls.{opened}
@@ -19,17 +20,17 @@ use Rattle.history.proofs.Verdict.{Verdict}
 use Rattle.history.proofs.Verdict.Verdict.{turned_down, carried_out}
 
 module _ {t : Transitions} {i : Independence} (laws : Laws t i) (ls : List Sheet) (s : ℕ) (p : Page) (within : s < 4) (sound : Sound t p) where
-  no_reason : (a : Str) → state_told t a ≡ Ok tt → Reason t ls (open_sheet s a) → ⊥
-  no_reason a e (no_sheet c past) = omega (arith, within, past)
-  no_reason a e (no_state _ _ n) = n ((laws.states_told a).0 (state_ok t a e))
+  no_reason : (a : Str) → state_told t a ≡ Ok tt → (f : BenchFault) → Reason t i ls (open_sheet s a) f → ⊥
+  no_reason a e f (no_sheet c past) = omega (arith, within, past)
+  no_reason a e f (no_state _ _ _ n) = n ((laws.states_told a).0 (state_ok t a e))
 
-  pub opening : (a : Str) → Verdict t ls (open_sheet s a) (opened t a p)
+  pub opening : (a : Str) → Verdict t i ls (open_sheet s a) (opened t a p)
   opening a = go (state_told t a) refl
     where
-      go : (r : Result (Unit {0}) MaskFault) → state_told t a ≡ r → Verdict t ls (open_sheet s a) (opened t a p)
+      go : (r : Result (Unit {0}) MaskFault) → state_told t a ≡ r → Verdict t i ls (open_sheet s a) (opened t a p)
       go (Ok u) e =
-          subst (Verdict t ls (open_sheet s a)) (sym (opened_at t p a (not_released sound) (sym e)))
-          (carried_out _ within (no_reason a e) (record { long = sound.long; few = omega arith; stands = (a, replayed_none t a e) }) (λ after b. opens s a b))
+          carried_out _ (opened_at t p a (not_released sound) (sym e))
+          within (no_reason a e) (record { long = sound.long; few = omega arith; stands = (a, replayed_none t a e) }) (λ after b. opens s a b)
       go (Err f) e =
-          subst (Verdict t ls (open_sheet s a)) (sym (opened_refused t p a (not_released sound) f (sym e)))
-          (turned_down (System f) (no_state s a (λ w. ok_not_err tt f (sym (state_told_ok t a ((laws.states_told a).1 w)) ∙ e))))
+          turned_down (System f) (opened_refused t p a (not_released sound) f (sym e))
+          (no_state s a f (λ w. ok_not_err tt f (sym (state_told_ok t a ((laws.states_told a).1 w)) ∙ e)))

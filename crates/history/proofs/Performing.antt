@@ -1,63 +1,51 @@
 -- Calls performed one by one, and their answers written one behind the other. Assumes nothing.
-use Rattle.std.proofs.Common.{◌≡◌, ℕ, ◌+◌, ◌<◌, ◌≤◌, leb, List, [], ◌∷◌, ◌++◌, map, length, get_or, take, drop, set, Some, None, sym, ap, ◌∙◌, arith}
-use Rattle.std.proofs.lemmas.List.{append-nil, append_assoc, map-append, map_push, length-map, drop-map, take-append-drop, take_more_set, drop-set-lt, drop-drop, at_drop_more, at_drop_all}
-use Rattle.std.proofs.lemmas.Bool.{cond-true, cond-false, le-leb, lt-leb}
-use Rattle.steps.specs.Meaning.{Transitions}
+use Rattle.std.proofs.Common.{◌≡◌, ℕ, ◌+◌, ◌<◌, ◌≤◌, leb, List, ◌∷◌, ◌++◌, map, length, get_or, take, drop, set, Result, sym, ap, ◌∙◌, arith}
+use Rattle.std.proofs.lemmas.List.{append-nil, append_assoc, map-append, map_push, length-map, drop-map, drop_more, take-append-drop, take_more_set, drop-set-lt, at_drop_all}
+use Rattle.std.proofs.lemmas.Bool.{cond-true, le-leb}
+use Rattle.std.proofs.lemmas.Grind.{drop_more_same}
+use Rattle.steps.specs.Meaning.{Transitions, Independence}
+use Rattle.bench.specs.declared.fault.BenchFault.{BenchFault}
 use Rattle.bench.specs.Page.{Page}
 use Rattle.history.specs.declared.call.Answer.{Answer}
-use Rattle.history.specs.History.{CallView, AnswerView}
+use Rattle.history.specs.History.{CallView}
 use Rattle.history.specs.Views.{answer_view}
-use Rattle.history.specs.Told.{answer_told, pages_then, answers_told, pages_told, new_pages, performed, answers_after}
+use Rattle.history.specs.Told.{answer_told, pages_then, answers_told, pages_told, new_pages, answers_after}
 
--- a call more: c is the one at i
-module _ (t : Transitions) (cs : List CallView) (i : ℕ) (ps qs : List Page) (c d : CallView) (lt : i < length cs) (at : get_or cs i d ≡ c) (pages : qs ≡ pages_then t ps c) where
-  left : qs ≡ pages_then t ps (get_or cs i d)
-  left = pages ∙ ap (pages_then t ps) (sym at)
+-- The first n calls are performed: what is left of them leads on from the pages as all do from new ones, their answers are written, and what stands behind is as it was.
+pub record SoFar (t : Transitions) (i : Independence) (cs : List CallView) (old now : List (Result Answer BenchFault)) (ps : List Page) (n : ℕ) : Type 0 where
+  pub pages : pages_told t i ps (drop n cs) ≡ pages_told t i new_pages cs
+  pub written : map answer_view (take n now) ++ answers_told t i ps (drop n cs) ≡ answers_told t i new_pages cs
+  pub behind : drop n now ≡ drop n old
 
-  pub more_pages : (r : List Page) → pages_told t ps (drop i cs) ≡ r → pages_told t qs (drop (i + 1) cs) ≡ r
-  more_pages r inv = ap (λ q. pages_told t q (drop (i + 1) cs)) left ∙ sym (at_drop_more (pages_told t ps) cs i d lt) ∙ inv
+module _ {t : Transitions} {i : Independence} {cs : List CallView} {old now : List (Result Answer BenchFault)} {ps : List Page} {n : ℕ} (so_far : SoFar t i cs old now ps n) where
+  -- a call more: c is the one at n
+  pub one_more : (c d : CallView) (a : Result Answer BenchFault) (qs : List Page) → n < length cs → n < length now → get_or cs n d ≡ c → answer_view a ≡ answer_told t i ps c → qs ≡ pages_then t i ps c → SoFar t i cs old (set now n a) qs (n + 1)
+  one_more c d a qs lt room at answer left =
+      let next : drop n cs ≡ c ∷ drop (n + 1) cs = drop_more cs n d lt ∙ ap (λ v. v ∷ drop (n + 1) cs) at in
+      record {
+        pages = rw left (sym (ap (pages_told t i ps) next) ∙ so_far.pages);
+        written = rw (take_more_set now n a room, map_push answer_view (take n now) a, append_assoc, left, answer) (sym (ap (λ l. map answer_view (take n now) ++ answers_told t i ps l) next) ∙ so_far.written);
+        behind = drop-set-lt (n + 1) now n a (omega arith) ∙ drop_more_same now old n so_far.behind;
+      }
 
-  told_more : (v : AnswerView) → v ≡ answer_told t ps c → v ∷ answers_told t qs (drop (i + 1) cs) ≡ answers_told t ps (drop i cs)
-  told_more v e = ap (λ w. w ∷ answers_told t qs (drop (i + 1) cs)) (e ∙ ap (answer_told t ps) (sym at)) ∙ ap (λ q. answer_told t ps (get_or cs i d) ∷ answers_told t q (drop (i + 1) cs)) left ∙ sym (at_drop_more (answers_told t ps) cs i d lt)
+  -- all calls are performed
+  module _ (whole : n ≡ length cs) where
+    all : length cs ≤ n
+    all = omega arith
 
-  pub more_answers : (out : List Answer) (a : Answer) (r : List AnswerView) → i < length out → answer_view a ≡ answer_told t ps c → map answer_view (take i out) ++ answers_told t ps (drop i cs) ≡ r → map answer_view (take (i + 1) (set out i a)) ++ answers_told t qs (drop (i + 1) cs) ≡ r
-  more_answers out a r room e inv =
-      let put : map answer_view (take (i + 1) (set out i a)) ≡ map answer_view (take i out) ++ answer_view a ∷ [] = ap (map answer_view) (take_more_set out i a room) ∙ map_push answer_view (take i out) a in
-      ap (λ l. l ++ answers_told t qs (drop (i + 1) cs)) put
-      ∙ append_assoc (map answer_view (take i out)) (answer_view a ∷ []) (answers_told t qs (drop (i + 1) cs))
-      ∙ ap (λ l. map answer_view (take i out) ++ l) (told_more (answer_view a) e)
-      ∙ inv
+    pub all_pages : ps ≡ pages_told t i new_pages cs
+    all_pages = sym (at_drop_all (pages_told t i ps) cs n all) ∙ so_far.pages
 
--- what stands behind the answers is out it was
-pub more_rest : (out old : List Answer) (i : ℕ) (a : Answer) → drop i out ≡ drop i old → drop (i + 1) (set out i a) ≡ drop (i + 1) old
-more_rest out old i a inv = drop-set-lt (i + 1) out i a (omega arith) ∙ sym (drop-drop 1 i out) ∙ ap (drop 1) inv ∙ drop-drop 1 i old
+    pub all_answers : map answer_view (take n now) ≡ answers_told t i new_pages cs
+    all_answers = sym (append-nil (map answer_view (take n now))) ∙ ap (λ l. map answer_view (take n now) ++ l) (sym (at_drop_all (answers_told t i ps) cs n all)) ∙ so_far.written
 
--- all calls performed
-module _ (t : Transitions) (cs : List CallView) (i : ℕ) (ps : List Page) (done : length cs ≤ i) where
-  pub all_pages : pages_told t ps (drop i cs) ≡ pages_told t new_pages cs → ps ≡ pages_told t new_pages cs
-  all_pages inv = sym (at_drop_all (pages_told t ps) cs i done) ∙ inv
-
-  pub all_answers : (out : List Answer) → map answer_view (take i out) ++ answers_told t ps (drop i cs) ≡ answers_told t new_pages cs → map answer_view (take i out) ≡ answers_told t new_pages cs
-  all_answers out inv = sym (append-nil (map answer_view (take i out))) ∙ ap (λ l. map answer_view (take i out) ++ l) (sym (at_drop_all (answers_told t ps) cs i done)) ∙ inv
-
--- the answers over the front of the old ones
-pub over_front : (out old : List Answer) (i : ℕ) (r : List AnswerView) → map answer_view (take i out) ≡ r → drop i out ≡ drop i old → map answer_view out ≡ r ++ drop i (map answer_view old)
-over_front out old i r front rest =
-    ap (map answer_view) (sym (take-append-drop i out))
-    ∙ map-append answer_view (take i out) (drop i out)
-    ∙ ap (λ l. l ++ map answer_view (drop i out)) front
-    ∙ ap (λ l. r ++ map answer_view l) rest
-    ∙ ap (λ l. r ++ l) (sym (drop-map answer_view i old))
-
-module _ (t : Transitions) (cs : List CallView) (old : List Answer) where
-  pub with_room : length cs ≤ length old → (performed t cs (length old) ≡ Some (pages_told t new_pages cs)) × (answers_after t cs (map answer_view old) ≡ answers_told t new_pages cs ++ drop (length cs) (map answer_view old))
-  with_room room = (
-    cond-true (leb (length cs) (length old)) _ _ (le-leb _ _ room),
-    cond-true (leb (length cs) (length (map answer_view old))) _ _ (le-leb _ _ (rw length-map room)),
-  )
-
-  pub without_room : length old < length cs → (performed t cs (length old) ≡ None) × (answers_after t cs (map answer_view old) ≡ map answer_view old)
-  without_room short = (
-    cond-false (leb (length cs) (length old)) _ _ (lt-leb _ _ short),
-    cond-false (leb (length cs) (length (map answer_view old))) _ _ (lt-leb _ _ (rw length-map short)),
-  )
+    -- their answers stand over the front of the old ones
+    pub all_written : length cs ≤ length old → map answer_view now ≡ answers_after t i cs (map answer_view old)
+    all_written room =
+        ap (map answer_view) (sym (take-append-drop n now))
+        ∙ map-append answer_view (take n now) (drop n now)
+        ∙ ap (λ l. l ++ map answer_view (drop n now)) all_answers
+        ∙ ap (λ l. answers_told t i new_pages cs ++ map answer_view l) so_far.behind
+        ∙ ap (λ l. answers_told t i new_pages cs ++ l) (sym (drop-map answer_view n old))
+        ∙ ap (λ k. answers_told t i new_pages cs ++ drop k (map answer_view old)) whole
+        ∙ sym (cond-true (leb (length cs) (length (map answer_view old))) _ _ (le-leb _ _ (rw length-map room)))

@@ -1,5 +1,9 @@
 -- Pages that the calls leave: none is released, and what an open one holds replays. Assumes nothing.
-use Rattle.std.proofs.Common.{◌≡◌, ℕ, zero, suc, ◌≤◌, ◌⊎◌, List, [], ◌∷◌, map, length, get_or, set, replicate, Ok, sym, refl, ap, subst, inl, inr, arith}
+use Rattle.std.proofs.Common.{◌≡◌, ℕ, ◌<◌, ◌≤◌, ◌≢◌, ◌⊎◌, List, map, length, get_or, set, replicate, Ok, sym, refl, ap, subst, inl, inr, arith}
+use Rattle.std.proofs.Math.ListN.{get_or-map}
+use Rattle.std.proofs.lemmas.List.{get_or-replicate, get_or_past, get_or-set_other}
+use Rattle.std.proofs.lemmas.Grind.{get_or-set_at}
+use Rattle.std.proofs.lemmas.Bool.{cases_lt, cases_eq}
 use Rattle.steps.specs.Meaning.{Str, Transitions}
 use Rattle.bench.specs.declared.sheet.Standing.{Standing}
 use Rattle.bench.specs.declared.sheet.Standing.TheVariants.{Blank, Open, Released}
@@ -27,16 +31,17 @@ module _ {t : Transitions} {p : Page} (sound : Sound t p) where
   pub not_released : p.standing ≡ Released → ⊥
   not_released e = subst (Stands t p) e sound.stands
 
-  pub blank_or_open : (p.standing ≡ Blank) ⊎ ((p.standing ≡ Open) × ((b : Str) × (end_told t p ≡ Ok b)))
-  blank_or_open = go p.standing refl sound.stands
+  -- it is blank, or open, and then it replays
+  pub by_standing : {P : Type 0} → (p.standing ≡ Blank → P) → (p.standing ≡ Open → (b : Str) → end_told t p ≡ Ok b → P) → P
+  by_standing {P} on_blank on_open = go p.standing refl sound.stands
     where
-      go : (st : Standing) → p.standing ≡ st → Stands t p st → (p.standing ≡ Blank) ⊎ ((p.standing ≡ Open) × ((b : Str) × (end_told t p ≡ Ok b)))
-      go Blank e s = inl e
-      go Open e s = inr (e, s)
+      go : (st : Standing) → p.standing ≡ st → Stands t p st → P
+      go Blank e s = on_blank e
+      go Open e s = on_open e s.0 s.1
       go Released e s = absurd s
 
 pub blank_not_open : (p : Page) → p.standing ≡ Blank → p.standing ≡ Open → ⊥
-blank_not_open p e o = let z : ◌≡◌ {A = ℕ} 0 1 = cc in omega arith
+blank_not_open p e o = cc
 
 viewed : Standing → Page → Sheet
 viewed st p = elim st [ Blank ↦ blank | Open ↦ holds p.start (steps_of p) | Released ↦ holds p.start (steps_of p) ]
@@ -51,23 +56,20 @@ view_open p e = ap (λ st. viewed st p) e
 
 -- a sheet of the table is seen as its page
 pub sheet_view : (ps : List Page) (s : ℕ) → sheet_at (map page_view ps) s ≡ page_view (get_or ps s blank_page)
-sheet_view [] s = refl
-sheet_view (p ∷ ps) zero = refl
-sheet_view (p ∷ ps) (suc s) = sheet_view ps s
+sheet_view ps s = get_or-map page_view ps s blank_page
 
--- what holds of every element holds of all after one is set
-pub holds_set : {A : Type 0} (P : A → Type 0) (xs : List A) (i : ℕ) (y d : A) → ((k : ℕ) → P (get_or xs k d)) → P y → (k : ℕ) → P (get_or (set xs i y) k d)
-holds_set P [] i y d h q k = h k
-holds_set P (x ∷ xs) zero y d h q zero = q
-holds_set P (x ∷ xs) zero y d h q (suc k) = h (suc k)
-holds_set P (x ∷ xs) (suc i) y d h q zero = h zero
-holds_set P (x ∷ xs) (suc i) y d h q (suc k) = holds_set P xs i y d (λ j. h (suc j)) q k
+-- one page is set
+pub sound_set : {t : Transitions} (ps : List Page) (s : ℕ) (p : Page) → s < length ps → AllSound t ps → Sound t p → AllSound t (set ps s p)
+sound_set {t} ps s p inside sound good k = go (cases_eq k s)
+  where
+    go : (k ≡ s) ⊎ (k ≢ s) → Sound t (get_or (set ps s p) k blank_page)
+    go (inl here) = subst (Sound t) (sym (get_or-set_at ps s k p blank_page here inside)) good
+    go (inr other) = subst (Sound t) (sym (get_or-set_other ps s k p blank_page other)) (sound k)
 
 -- four blank pages
-pub get_or_replicate_same : {A : Type 0} (n : ℕ) (d : A) (k : ℕ) → get_or (replicate n d) k d ≡ d
-get_or_replicate_same zero d k = refl
-get_or_replicate_same (suc n) d zero = refl
-get_or_replicate_same (suc n) d (suc k) = get_or_replicate_same n d k
-
 pub new_sound : (t : Transitions) → AllSound t (replicate 4 blank_page)
-new_sound t s = subst (Sound t) (sym (get_or_replicate_same 4 blank_page s)) (record { long = refl; few = omega arith; stands = tt })
+new_sound t s = subst (Sound t) (sym (is_blank (cases_lt s 4))) (record { long = refl; few = omega arith; stands = tt })
+  where
+    is_blank : (s < 4) ⊎ (4 ≤ s) → get_or (replicate 4 blank_page) s blank_page ≡ blank_page
+    is_blank (inl few) = get_or-replicate 4 s blank_page blank_page few
+    is_blank (inr past) = get_or_past (replicate 4 blank_page) s blank_page past

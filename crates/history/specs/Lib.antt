@@ -1,3 +1,4 @@
 pub mod History
 pub mod Views
 pub mod Told
+pub mod Plain

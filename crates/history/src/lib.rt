@@ -4,4 +4,5 @@
 
 pub mod call;
 pub mod perform;
+pub mod plain;
 mod turn;

@@ -7,32 +7,41 @@ ghost use Rattle.history.specs.Told.{answer_told, pages_then};
 
 use crate::call::{Answer, Call};
 use bench::bench::Bench;
+use bench::fault::BenchFault;
 use byte_strings::held::Held;
 use steps::system::StepSystem;
 
 // Performs a call and answers what it gave.
-pub(crate) fn turn<S: StepSystem>(bench: &mut Bench, system: &S, call: &Call<'_>) -> Answer
-    ensures answer { answer_view result ≡ answer_told (S.transitions system.now) (pages_of bench.old) (call_view call.now) }
-    ensures pages { pages_of bench.new ≡ pages_then (S.transitions system.now) (pages_of bench.old) (call_view call.now) }
+pub(crate) fn turn<S: StepSystem>(
+    bench: &mut Bench,
+    system: &S,
+    call: &Call<'_>,
+) -> Result<Answer, BenchFault>
+    ensures answer { answer_view result ≡ answer_told (S.transitions system.now) (S.independence system.now) (pages_of bench.old) (call_view call.now) }
+    ensures pages { pages_of bench.new ≡ pages_then (S.transitions system.now) (S.independence system.now) (pages_of bench.old) (call_view call.now) }
 {
     match call {
-        Call::Open { sheet, state } => match bench.open_sheet(system, *sheet, state) {
-            Ok(()) => Answer::Opened,
-            Err(fault) => Answer::Refused(fault),
-        },
+        Call::Open { sheet, state } => {
+            bench.open_sheet(system, *sheet, state)?;
+            Ok(Answer::Opened)
+        }
         Call::Add { sheet, step } => {
             let mut out = [0u8; 256];
-            match bench.add(system, *sheet, step, &mut out) {
-                Ok(n) => end_at(&out[0..n]),
-                Err(fault) => Answer::Refused(fault),
-            }
+            let n = bench.add(system, *sheet, step, &mut out)?;
+            Ok(end_at(&out[..n]))
+        }
+        Call::Swap { sheet, place } => {
+            bench.swap(system, *sheet, *place)?;
+            Ok(Answer::Swapped)
         }
         Call::Withdraw { sheet } => {
             let mut end = [0u8; 256];
-            match bench.withdraw(system, *sheet, &mut end) {
-                Ok(n) => end_at(&end[0..n]),
-                Err(fault) => Answer::Refused(fault),
-            }
+            let n = bench.withdraw(system, *sheet, &mut end)?;
+            Ok(end_at(&end[..n]))
+        }
+        Call::Join { sheet, other } => {
+            let (len, shared) = bench.join(system, *sheet, *other)?;
+            Ok(Answer::Joined { len, shared })
         }
     }
 }
@@ -40,7 +49,7 @@ pub(crate) fn turn<S: StepSystem>(bench: &mut Bench, system: &S, call: &Call<'_>
 // The answer that a run ends in a state.
 fn end_at(state: &[u8]) -> Answer
     requires { length state.now ≤ 256 }
-    ensures { answer_view result ≡ ends state.now }
+    ensures { answer_view (Ok result) ≡ ends state.now }
 {
     let Some(held) = Held::of(state) else {
         return unreachable();

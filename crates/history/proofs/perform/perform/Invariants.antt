@@ -1,13 +1,8 @@
-use Rattle.std.proofs.Common.{◌≡◌, ◌++◌, map, take, drop}
+use Rattle.std.proofs.Common.{map}
 use Rattle.bench.specs.Table.{pages_of}
-use Rattle.history.specs.Views.{call_view, answer_view}
-use Rattle.history.specs.Told.{answers_told, pages_told, new_pages}
+use Rattle.history.specs.Views.{call_view}
+use Rattle.history.proofs.Performing.{SoFar}
 use Rattle.history.proofs.perform.perform.Given as goal
 
 abbrev pub invariant-loop-i : goal.invariant-loop-i
-invariant-loop-i g l =
-    let t = g.S.StepSystem.transitions l.system in
-    let cs = map call_view l.calls in
-    (pages_told t (pages_of l.bench) (drop l.i cs) ≡ pages_told t new_pages cs)
-    × (map answer_view (take l.i l.answers) ++ answers_told t (pages_of l.bench) (drop l.i cs) ≡ answers_told t new_pages cs)
-    × (drop l.i l.answers ≡ drop l.i l.initial.answers)
+invariant-loop-i g l = SoFar (g.S.StepSystem.transitions l.system) (g.S.StepSystem.independence l.system) (map call_view l.calls) l.initial.answers l.answers (pages_of l.bench) l.i

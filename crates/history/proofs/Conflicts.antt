@@ -10,21 +10,21 @@ use Rattle.runs.specs.Compatible.{Compatible}
 use Rattle.runs.proofs.Conflict as runs
 use Rattle.bench.specs.declared.fault.BenchFault.{BenchFault}
 use Rattle.bench.specs.declared.fault.BenchFault.TheVariants.{Conflict}
-use Rattle.bench.specs.declared.sheet.Standing.TheVariants.{Blank, Open}
+use Rattle.bench.specs.declared.sheet.Standing.TheVariants.{Open}
 use Rattle.bench.specs.Page.{Page, steps_of, blank_page}
 use Rattle.bench.specs.Replay.{end_told}
 use Rattle.bench.specs.Calls.{Outcome}
 use Rattle.bench.specs.Join as join_of
 use Rattle.bench.specs.Table.{page_at}
-use Rattle.merges.specs.History.{sheet_at}
-use Rattle.merges.specs.History.Sheet.{holds}
-use Rattle.merges.specs.History.CallView.{join}
-use Rattle.merges.specs.History.AnswerView.{refused}
-use Rattle.merges.specs.Views.{page_view}
-use Rattle.merges.specs.Told.{outcome, answer_of, answer_told}
-use Rattle.merges.proofs.Replays.{replayed_run}
-use Rattle.merges.proofs.Sound.{AllSound, blank_or_open, view_blank, view_open, sheet_view}
-use Rattle.merges.proofs.Joining.{conflict_told}
+use Rattle.history.specs.History.{sheet_at}
+use Rattle.history.specs.History.Sheet.{holds}
+use Rattle.history.specs.History.CallView.{join}
+use Rattle.history.specs.History.AnswerView.{refused}
+use Rattle.history.specs.Views.{page_view}
+use Rattle.history.specs.Told.{outcome, answer_of, answer_told}
+use Rattle.history.proofs.Replays.{replayed_run}
+use Rattle.history.proofs.Sound.{AllSound, by_standing, view_blank, view_open, sheet_view}
+use Rattle.history.proofs.Joining.{conflict_told}
 
 -- a sheet is there, or there is none of that number
 pub there : (ps : List Page) (e : ℕ) → ((page_at ps e ≡ None) × (4 ≤ e)) ⊎ ((page_at ps e ≡ Some (get_or ps e blank_page)) × (e < 4))
@@ -36,7 +36,7 @@ there ps e = go (cases_lt e 4)
 
 -- a refusal is answered exactly where the outcome is one
 answered_refused : (s e : ℕ) (o : Outcome) (f : BenchFault) → (answer_of (join s e) o ≡ refused f) ↔ (o ≡ Err f)
-answered_refused s e (Ok d) f = ((λ h. let z : ◌≡◌ {A = ℕ} 0 1 = cc in absurd (omega arith)), (λ h. let z : ◌≡◌ {A = ℕ} 0 1 = cc in absurd (omega arith)))
+answered_refused s e (Ok d) f = ((λ h. cc), (λ h. cc))
 answered_refused s e (Err g) f = ((λ h. ap Err (cc)), (λ h. ap refused (cc)))
 
 -- A page that is seen to hold a run: one of the four, open, and it replays.
@@ -49,20 +49,16 @@ record StandsOpen (t : Transitions) (ps : List Page) (s : ℕ) (a : Str) (xs : L
   steps : steps_of (get_or ps s blank_page) ≡ xs
 
 stands_open : (t : Transitions) (ps : List Page) → length ps ≡ 4 → AllSound t ps → (s : ℕ) (a : Str) (xs : List Str) → sheet_at (map page_view ps) s ≡ holds a xs → StandsOpen t ps s a xs
-stands_open t ps four sound s a xs h = go (blank_or_open (sound s)) (cases_lt s 4)
+stands_open t ps four sound s a xs h = go (cases_lt s 4)
   where
     seen : page_view (get_or ps s blank_page) ≡ holds a xs
     seen = sym (sheet_view ps s) ∙ h
 
-    go : ((get_or ps s blank_page).standing ≡ Blank) ⊎ (((get_or ps s blank_page).standing ≡ Open) × ((b : Str) × (end_told t (get_or ps s blank_page) ≡ Ok b))) → (s < 4) ⊎ (4 ≤ s) → StandsOpen t ps s a xs
-    go (inl blank) w = let z : ◌≡◌ {A = ℕ} 0 1 = cc (seen, view_blank (get_or ps s blank_page) blank) in absurd (omega arith)
-    go (inr w) (inr past) =
-        let none : get_or ps s blank_page ≡ blank_page = get_or_past ps s blank_page (omega arith) in
-        let z : ◌≡◌ {A = ℕ} 0 1 = cc (seen, ap page_view none) in
-        absurd (omega arith)
-    go (inr (stands, (b, r))) (inl few) =
-        let same = view_open (get_or ps s blank_page) stands in
-        record { few = few; is_open = stands; end = b; replays = r; start = cc (seen, same); steps = cc (seen, same) }
+    go : (s < 4) ⊎ (4 ≤ s) → StandsOpen t ps s a xs
+    go (inr past) = let none = ap page_view (get_or_past ps s blank_page (omega arith)) in cc (seen, none)
+    go (inl few) =
+        by_standing (sound s) (λ blank. cc (seen, view_blank (get_or ps s blank_page) blank))
+        (λ stands b r. let same = view_open (get_or ps s blank_page) stands in record { few = few; is_open = stands; end = b; replays = r; start = cc (seen, same); steps = cc (seen, same) })
 
 module _ {t : Transitions} {i : Independence} (laws : Laws t i) (ps : List Page) (four : length ps ≡ 4) (sound : AllSound t ps) (s e : ℕ) (a : Str) (xs ys : List Str) (h : sheet_at (map page_view ps) s ≡ holds a xs) (h' : sheet_at (map page_view ps) e ≡ holds a ys) where
   on_both : outcome t i ps (join s e) ≡ join_of.joined t i (Some (get_or ps e blank_page)) (get_or ps s blank_page)

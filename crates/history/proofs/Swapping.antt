@@ -26,26 +26,26 @@ use Rattle.bench.specs.Swap.{with_neighbours}
 use Rattle.bench.specs.Swap as swap_of
 use Rattle.bench.proofs.Calling.{not_open}
 use Rattle.bench.proofs.Swapping.{swapped_nowhere, swapped_refused, swapped_dependent, swapped_too_long, swapped_done}
-use Rattle.merges.specs.History.{Sheet, sheet_at, Becomes, Reason}
-use Rattle.merges.specs.History.Sheet.{holds}
-use Rattle.merges.specs.History.CallView.{swap}
-use Rattle.merges.specs.History.Reason.{no_sheet, nothing_to_swap, no_neighbours, dependent, between_too_long}
-use Rattle.merges.specs.History.Reason.{swapped_too_long as step_over}
-use Rattle.merges.specs.History.Happens.{swaps}
-use Rattle.merges.specs.Views.{page_view}
-use Rattle.merges.proofs.Replays.{replayed_start}
-use Rattle.merges.proofs.Paths.{Path, path_append, path_split, replayed_path, path_replayed, path_run, next_within, next_over, next_state}
-use Rattle.merges.proofs.Paths.Path.{along}
-use Rattle.merges.proofs.Neighbours.{split_two, split_other, front_long, two_at}
-use Rattle.merges.proofs.Sound.{Sound, blank_or_open, blank_not_open, view_blank, view_open}
-use Rattle.merges.proofs.Verdict.{Verdict}
-use Rattle.merges.proofs.Verdict.Verdict.{turned_down, carried_out}
+use Rattle.history.specs.History.{Sheet, sheet_at, Becomes, Reason}
+use Rattle.history.specs.History.Sheet.{holds}
+use Rattle.history.specs.History.CallView.{swap}
+use Rattle.history.specs.History.Reason.{no_sheet, nothing_to_swap, no_neighbours, dependent, between_too_long}
+use Rattle.history.specs.History.Reason.{swapped_too_long as step_over}
+use Rattle.history.specs.History.Happens.{swaps}
+use Rattle.history.specs.Views.{page_view}
+use Rattle.history.proofs.Replays.{replayed_start, replayed_path, path_replayed}
+use Rattle.history.proofs.Paths.{Path, path_append, path_split, path_run, next_within, next_over, next_state}
+use Rattle.history.proofs.Paths.Path.{along}
+use Rattle.history.proofs.Neighbours.{split_two, split_other, front_long, two_at}
+use Rattle.history.proofs.Sound.{Sound, by_standing, blank_not_open, view_blank, view_open}
+use Rattle.history.proofs.Verdict.{Verdict}
+use Rattle.history.proofs.Verdict.Verdict.{turned_down, carried_out}
 
 module _ {t : Transitions} {i : Independence} (laws : Laws t i) (ls : List Sheet) (s n : ℕ) (p : Page) (within : s < 4) (view : sheet_at ls s ≡ page_view p) (sound : Sound t p) where
   on_blank : p.standing ≡ Blank → Verdict t i ls (swap s n) (swap_of.swapped t i n p)
   on_blank e =
-      subst (Verdict t i ls (swap s n)) (sym (not_open p _ (blank_not_open p e)))
-      (turned_down (WrongStanding 1) (nothing_to_swap s n (view ∙ view_blank p e)))
+      turned_down (WrongStanding 1) (not_open p _ (blank_not_open p e))
+      (nothing_to_swap s n (view ∙ view_blank p e))
 
   module _ (e : p.standing ≡ Open) (z : Str) (r : end_told t p ≡ Ok z) where
     held : sheet_at ls s ≡ holds p.start (steps_of p)
@@ -56,8 +56,8 @@ module _ {t : Transitions} {i : Independence} (laws : Laws t i) (ls : List Sheet
 
     nowhere : (n ≡ 0) ⊎ ((n ≡ 0 → ⊥) × (p.len ≤ n)) → Verdict t i ls (swap s n) (swap_of.swapped t i n p)
     nowhere w =
-        subst (Verdict t i ls (swap s n)) (sym (swapped_nowhere t i p n e z (sym r) w))
-        (turned_down (NoSuchStep n) (no_neighbours s n p.start (steps_of p) held (why w)))
+        turned_down (NoSuchStep n) (swapped_nowhere t i p n e z (sym r) w)
+        (no_neighbours s n p.start (steps_of p) held (why w))
       where
         why : (n ≡ 0) ⊎ ((n ≡ 0 → ⊥) × (p.len ≤ n)) → (n ≡ 0) ⊎ (length (steps_of p) ≤ n)
         why (inl none) = inl none
@@ -84,8 +84,8 @@ module _ {t : Transitions} {i : Independence} (laws : Laws t i) (ls : List Sheet
 
       on_dependent : i.back x w ≡ None → Verdict t i ls (swap s n) (swap_of.swapped t i n p)
       on_dependent none =
-          subst (Verdict t i ls (swap s n)) (sym (swapped_dependent t i p n e z (sym r) above below (sym (told ∙ ap (λ o. turned i x (step_fits o 64)) none))))
-          (turned_down (Dependent n) (dependent s n p.start front x w rest stands place (λ y h. some_not_none y (sym ((laws.origin x y w).1 h) ∙ none))))
+          turned_down (Dependent n) (swapped_dependent t i p n e z (sym r) above below (sym (told ∙ ap (λ o. turned i x (step_fits o 64)) none)))
+          (dependent s n p.start front x w rest stands place (λ y h. some_not_none y (sym ((laws.origin x y w).1 h) ∙ none)))
 
       module _ (y : Str) (back : i.back x w ≡ Some y) where
         left_y : i.left y x ≡ Some w
@@ -95,8 +95,8 @@ module _ {t : Transitions} {i : Independence} (laws : Laws t i) (ls : List Sheet
         on_over over =
             let f : MaskFault = Inner (StepTooLong (told_length (length y))) in
             let fits : step_fits (Some y) 64 ≡ Err f = cond-false (leb (length y) 64) (Ok (Some y)) (Err f) (lt-leb _ _ over) in
-            subst (Verdict t i ls (swap s n)) (sym (swapped_refused t i p n e z (sym r) above below f (sym (told ∙ ap (λ o. turned i x (step_fits o 64)) back ∙ ap (turned i x) fits))))
-            (turned_down (System f) (step_over s n p.start front x w rest y (told_length (length y)) stands place left_y over refl))
+            turned_down (System f) (swapped_refused t i p n e z (sym r) above below f (sym (told ∙ ap (λ o. turned i x (step_fits o 64)) back ∙ ap (turned i x) fits)))
+            (step_over s n p.start front x w rest y (told_length (length y)) stands place left_y over refl)
 
         -- the states on the way: a before x, b behind it, c behind both, d behind y
         module _ (short_y : length y ≤ 64) (x' : Str) (left_x : i.left x y ≡ Some x') (a b c d : Str) (start : t.bad_state p.start ≡ None) (to_a : Path t p.start front a) (to_b : next_told t a x 256 ≡ Ok b) (to_c : next_told t b w 256 ≡ Ok c) (to_z : Path t c rest z) (to_d : t.next a y ≡ Ok d) where
@@ -124,8 +124,8 @@ module _ {t : Transitions} {i : Independence} (laws : Laws t i) (ls : List Sheet
           on_far : 256 < length d → Verdict t i ls (swap s n) (swap_of.swapped t i n p)
           on_far far =
               let f : MaskFault = Inner (StateTooLong (told_length (length d))) in
-              subst (Verdict t i ls (swap s n)) (sym (swapped_too_long t i p n e z (sym r) above below (record { first = y; second = x' }) (sym pair) a f (sym before_a) (sym (next_over laws a y d step_y at_a to_d far))))
-              (turned_down (System f) (between_too_long s n p.start front x w rest y a d (told_length (length d)) stands place left_y (path_run laws start to_a).0 to_d far refl))
+              turned_down (System f) (swapped_too_long t i p n e z (sym r) above below (record { first = y; second = x' }) (sym pair) a f (sym before_a) (sym (next_over laws a y d step_y at_a to_d far)))
+              (between_too_long s n p.start front x w rest y a d (told_length (length d)) stands place left_y (path_run laws start to_a).0 to_d far refl)
 
           module _ (near : length d ≤ 256) where
             d_to_c : t.next d x' ≡ Ok c
@@ -147,7 +147,7 @@ module _ {t : Transitions} {i : Independence} (laws : Laws t i) (ls : List Sheet
 
             no_reason : (f : BenchFault) → Reason t i ls (swap s n) f → ⊥
             no_reason f (no_sheet c past) = omega (arith, within, past)
-            no_reason f (nothing_to_swap s n h) = let z : ◌≡◌ {A = ℕ} 0 1 = cc (h, stands) in omega arith
+            no_reason f (nothing_to_swap s n h) = cc (h, stands)
             no_reason f (no_neighbours s n a' xs h w') = go w'
               where
                 go : (n ≡ 0) ⊎ (length xs ≤ n) → ⊥
@@ -171,10 +171,10 @@ module _ {t : Transitions} {i : Independence} (laws : Laws t i) (ls : List Sheet
             on_near : Verdict t i ls (swap s n) (swap_of.swapped t i n p)
             on_near =
                 let x_y : Pair = record { first = y; second = x' } in
-                subst (Verdict t i ls (swap s n)) (sym (swapped_done t i p n e z (sym r) above below x_y (sym pair) a d (sym before_a) (sym (next_within laws a y d step_y at_a to_d near))))
-                (carried_out _ within no_reason
+                carried_out _ (swapped_done t i p n e z (sym r) above below x_y (sym pair) a d (sym before_a) (sym (next_within laws a y d step_y at_a to_d near)))
+                within no_reason
                 (record { long = length-set (set p.rows (n - 1) y) n x' ∙ length-set p.rows (n - 1) y ∙ sound.long; few = sound.few; stands = (z, ap (replayed t p.start) (other y x') ∙ path_replayed t p.start (steps_of p) z (front ++ y ∷ x' ∷ rest) z r new_path) })
-                (λ after q. swaps s n p.start front x w y x' rest z stands place left_y left_x (subst (λ l. Becomes ls after s (holds p.start l)) (other y x') q) (path_run laws start old_path).0 (path_run laws start new_path).0 (extends_exchanged (exchanged_one (exchange_sym exchange))) (extends_exchanged (exchanged_one exchange))))
+                (λ after q. swaps s n p.start front x w y x' rest z stands place left_y left_x (subst (λ l. Becomes ls after s (holds p.start l)) (other y x') q) (path_run laws start old_path).0 (path_run laws start new_path).0 (extends_exchanged (exchanged_one (exchange_sym exchange))) (extends_exchanged (exchanged_one exchange)))
 
         on_short : length y ≤ 64 → Verdict t i ls (swap s n) (swap_of.swapped t i n p)
         on_short short_y =
@@ -212,8 +212,4 @@ module _ {t : Transitions} {i : Independence} (laws : Laws t i) (ls : List Sheet
         inside above below (take (n - 1) p.rows) (get_or p.rows (n - 1) []) (get_or p.rows n []) (drop (n + 1) (steps_of p)) (front_long p.rows n p.len above below room) refl refl refl (split_two p.rows n p.len above below room) (split_other p.rows n p.len above below room)
 
   pub swapping : Verdict t i ls (swap s n) (swap_of.swapped t i n p)
-  swapping = go (blank_or_open sound)
-    where
-      go : (p.standing ≡ Blank) ⊎ ((p.standing ≡ Open) × ((b : Str) × (end_told t p ≡ Ok b))) → Verdict t i ls (swap s n) (swap_of.swapped t i n p)
-      go (inl e) = on_blank e
-      go (inr (e, (b, r))) = on_open e b r (cases_eq n 0) (cases_lt n p.len)
+  swapping = by_standing sound on_blank (λ e b r. on_open e b r (cases_eq n 0) (cases_lt n p.len))

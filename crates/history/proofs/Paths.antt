@@ -13,10 +13,9 @@ use Rattle.runs.specs.Run.Run.{stays, goes}
 use Rattle.runs.proofs.Runs.{run_none}
 use Rattle.joins.specs.Steps.{ShortStep, ShortSteps}
 use Rattle.bench.specs.declared.fault.BenchFault.TheVariants.{Stopped}
-use Rattle.bench.specs.Replay.{followed, replayed}
+use Rattle.bench.specs.Replay.{followed}
 use Rattle.bench.specs.Join.{led}
 use Rattle.bench.proofs.Following.{then_followed}
-use Rattle.merges.proofs.Replays.{replayed_start, replayed_from}
 
 pub data Path (t : Transitions) : Str → List Str → Str → Type 0 where
   here : {a : Str} → Path t a [] a
@@ -43,13 +42,6 @@ module _ (t : Transitions) where
   pub path_followed : {a : Str} {xs : List Str} {b : Str} → Path t a xs b → (k : ℕ) → followed t a xs k ≡ Ok b
   path_followed here k = refl
   path_followed (along {xs = xs} n p) k = ap (λ r. then_followed t r xs k) n ∙ path_followed p (k + 1)
-
-  pub replayed_path : (a : Str) (xs : List Str) (b : Str) → replayed t a xs ≡ Ok b → Path t a xs b
-  replayed_path a xs b e = followed_path xs a 1 b (replayed_start t a xs b e).1
-
-  -- what a start replays to, it replays to by every path from there
-  pub path_replayed : (a : Str) (xs : List Str) (b : Str) (ys : List Str) (c : Str) → replayed t a xs ≡ Ok b → Path t a ys c → replayed t a ys ≡ Ok c
-  path_replayed a xs b ys c e p = replayed_from t a ys c (replayed_start t a xs b e).0 (path_followed p 1)
 
   then_led : Result Str MaskFault → List Str → Result Str MaskFault
   then_led r xs = elim r [ Ok b ↦ led t b xs | Err f ↦ Err f ]
@@ -97,10 +89,6 @@ module _ {t : Transitions} {i : Independence} (laws : Laws t i) where
       let f = told_state a x b n in
       let r = path_run f.1 p in
       (goes f.0 r.0, r.1)
-
-  pub path_steps : {a : Str} {xs : List Str} {b : Str} → Path t a xs b → ShortSteps t xs
-  path_steps here = tt
-  path_steps {a} (along {x = x} {b = b} n p) = let f = next_ok t a x b 256 n in ((laws.steps_told x).0 (f.shaped, f.shown), path_steps p)
 
   pub path_short : {a : Str} {xs : List Str} {b : Str} → t.bad_state a ≡ None → Path t a xs b → (m : ℕ) (c : Str) → Run t a (take m xs) c → length c ≤ 256
   path_short {a} s here zero c r = subst (λ d. length d ≤ 256) (run_none t r) ((laws.states_told a).0 s).1

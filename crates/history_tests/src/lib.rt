@@ -1,12 +1,12 @@
 // Lists of calls over two small step systems: one in which no steps are independent, and one in which all different ones are.
-// It rests on `merges` and `toys`; what the answers should be is worked out by hand.
+// It rests on `history` and `toys`; what the answers should be is worked out by hand.
 #![tactic(auto)]
 
 #[cfg(test)]
 mod tests {
     use bench::fault::BenchFault;
-    use merges::call::{Answer, Call};
-    use merges::perform::perform;
+    use history::call::{Answer, Call};
+    use history::perform::perform;
     use toys::{commuting, sequential};
 
     // An answer as it is compared: an end by its one byte, a refusal by its number and place.
@@ -19,16 +19,16 @@ mod tests {
         Refused(u8, u16),
     }
 
-    fn show(answer: &Answer) -> Shown {
+    fn show(answer: &Result<Answer, BenchFault>) -> Shown {
         match answer {
-            Answer::Opened => Shown::Opened,
-            Answer::Ends(state) => match state.text() {
+            Ok(Answer::Opened) => Shown::Opened,
+            Ok(Answer::Ends(state)) => match state.items() {
                 [byte] => Shown::Ends(*byte),
                 _ => Shown::Ends(0),
             },
-            Answer::Swapped => Shown::Swapped,
-            Answer::Joined { len, shared } => Shown::Joined(*len, *shared),
-            Answer::Refused(fault) => refused(*fault),
+            Ok(Answer::Swapped) => Shown::Swapped,
+            Ok(Answer::Joined { len, shared }) => Shown::Joined(*len, *shared),
+            Err(fault) => refused(*fault),
         }
     }
 
@@ -80,10 +80,10 @@ mod tests {
             Shown::Ends(12),
             Shown::Refused(14, 3),
         ];
-        let mut answers = [Answer::Opened; 9];
+        let mut answers = [Ok(Answer::Opened); 9];
         assert!(rt; perform(&sequential::system(), &calls, &mut answers).is_some());
-        for (i, answer) in answers.iter().enumerate() {
-            assert_eq!(rt; show(answer), expected[i]);
+        for (answer, shown) in answers.iter().zip(expected) {
+            assert_eq!(rt; show(answer), shown);
         }
     }
 
@@ -134,10 +134,10 @@ mod tests {
             Shown::Ends(8),
             Shown::Refused(10, 2),
         ];
-        let mut answers = [Answer::Opened; 11];
+        let mut answers = [Ok(Answer::Opened); 11];
         assert!(rt; perform(&commuting::system(), &calls, &mut answers).is_some());
-        for (i, answer) in answers.iter().enumerate() {
-            assert_eq!(rt; show(answer), expected[i]);
+        for (answer, shown) in answers.iter().zip(expected) {
+            assert_eq!(rt; show(answer), shown);
         }
     }
 }

@@ -29,21 +29,22 @@ use Rattle.bench.specs.Replay.{end_told, replayed}
 use Rattle.bench.specs.Join.{led, alike, surviving, longer, merged}
 use Rattle.bench.specs.Join as join_of
 use Rattle.bench.proofs.Calling.{not_open}
+use Rattle.bench.proofs.Replayed.{replayed_short}
 use Rattle.bench.proofs.Joining.{starts_alike, joined_none, joined_blank, joined_unlike, joined_refused, joined_done, survives, stops_on_the_way}
 use Rattle.bench.proofs.Joining as bench_join
-use Rattle.merges.specs.History.{Sheet, sheet_at, Becomes, Reason, Happens, Ends}
-use Rattle.merges.specs.History.Sheet.{holds}
-use Rattle.merges.specs.History.CallView.{join as join_call}
-use Rattle.merges.specs.History.AnswerView.{joined as joined_answer}
-use Rattle.merges.specs.History.Reason.{no_sheet, no_other, nothing_to_join_to, nothing_to_join, other_start, conflict, too_many, on_the_way_too_long}
-use Rattle.merges.specs.History.Happens.{joins}
-use Rattle.merges.specs.Views.{page_view}
-use Rattle.merges.proofs.Replays.{replayed_start, replayed_run}
-use Rattle.merges.proofs.Paths.{Path, path_append, replayed_path, path_replayed, path_run, path_steps, path_short, led_path, led_too_long}
-use Rattle.merges.proofs.Merging.{joins_short, merged_opposite, written_front, written_long}
-use Rattle.merges.proofs.Sound.{Sound, Stands, blank_or_open, blank_not_open, view_blank, view_open}
-use Rattle.merges.proofs.Verdict.{Verdict}
-use Rattle.merges.proofs.Verdict.Verdict.{turned_down, carried_out}
+use Rattle.history.specs.History.{Sheet, sheet_at, Becomes, Reason, Happens, Ends}
+use Rattle.history.specs.History.Sheet.{holds}
+use Rattle.history.specs.History.CallView.{join as join_call}
+use Rattle.history.specs.History.AnswerView.{joined as joined_answer}
+use Rattle.history.specs.History.Reason.{no_sheet, no_other, nothing_to_join_to, nothing_to_join, other_start, conflict, too_many, on_the_way_too_long}
+use Rattle.history.specs.History.Happens.{joins}
+use Rattle.history.specs.Views.{page_view}
+use Rattle.history.proofs.Replays.{replayed_start, replayed_path, path_replayed, replayed_run}
+use Rattle.history.proofs.Paths.{Path, path_append, path_run, path_short, led_path, led_too_long}
+use Rattle.history.proofs.Merging.{joins_short, merged_opposite, written_front, written_long}
+use Rattle.history.proofs.Sound.{Sound, Stands, by_standing, blank_not_open, view_blank, view_open}
+use Rattle.history.proofs.Verdict.{Verdict}
+use Rattle.history.proofs.Verdict.Verdict.{turned_down, carried_out}
 
 -- Two open pages with one start, and what a join of them comes to.
 module _ {t : Transitions} {i : Independence} (laws : Laws t i) (p q : Page) (is_p : p.standing ≡ Open) (is_q : q.standing ≡ Open) (b c : Str) (to_b : end_told t p ≡ Ok b) (to_c : end_told t q ≡ Ok c) (same : p.start ≡ q.start) where
@@ -86,11 +87,11 @@ module _ {t : Transitions} {i : Independence} (laws : Laws t i) (p q : Page) (is
   conflict_clash n h = go (join i (steps_of p) (steps_of q)) refl
     where
       by_led : (j : Joined) (is_j : join i (steps_of p) (steps_of q) ≡ Ok j) → p.len + length j.added ≤ 32 → (r : Result Str MaskFault) → led t b j.added ≡ r → ⊥
-      by_led j is_j fits (Ok d) l = let z : ◌≡◌ {A = ℕ} 0 1 = cc (h, on_near j is_j fits d l) in omega arith
-      by_led j is_j fits (Err f) l = let z : ◌≡◌ {A = ℕ} 0 1 = cc (h, on_far j is_j fits f l) in omega arith
+      by_led j is_j fits (Ok d) l = cc (h, on_near j is_j fits d l)
+      by_led j is_j fits (Err f) l = cc (h, on_far j is_j fits f l)
 
       by_length : (j : Joined) (is_j : join i (steps_of p) (steps_of q) ≡ Ok j) → (32 < p.len + length j.added) ⊎ (p.len + length j.added ≤ 32) → ⊥
-      by_length j is_j (inl over) = let z : ◌≡◌ {A = ℕ} 0 1 = cc (h, on_many j is_j over) in omega arith
+      by_length j is_j (inl over) = cc (h, on_many j is_j over)
       by_length j is_j (inr fits) = by_led j is_j fits (led t b j.added) refl
 
       go : (o : Result Joined ℕ) → join i (steps_of p) (steps_of q) ≡ o → join i (steps_of p) (steps_of q) ≡ Err n
@@ -103,18 +104,18 @@ module _ {t : Transitions} {i : Independence} (laws : Laws t i) (p q : Page) (is
 module _ {t : Transitions} {i : Independence} (laws : Laws t i) (ls : List Sheet) (s e : ℕ) (p q : Page) (within : s < 4) (view_p : sheet_at ls s ≡ page_view p) (view_q : sheet_at ls e ≡ page_view q) (sound_p : Sound t p) (sound_q : Sound t q) where
   on_blank : (o : Option Page) → p.standing ≡ Blank → Verdict t i ls (join_call s e) (join_of.joined t i o p)
   on_blank o b =
-      subst (Verdict t i ls (join_call s e)) (sym (not_open p _ (blank_not_open p b)))
-      (turned_down (WrongStanding 1) (nothing_to_join_to s e (view_p ∙ view_blank p b)))
+      turned_down (WrongStanding 1) (not_open p _ (blank_not_open p b))
+      (nothing_to_join_to s e (view_p ∙ view_blank p b))
 
   module _ (is_p : p.standing ≡ Open) (b : Str) (to_b : end_told t p ≡ Ok b) where
     held_p : sheet_at ls s ≡ holds p.start (steps_of p)
     held_p = view_p ∙ view_open p is_p
 
     on_none : 4 ≤ e → Verdict t i ls (join_call s e) (join_of.joined t i None p)
-    on_none past = subst (Verdict t i ls (join_call s e)) (sym (joined_none t i p is_p)) (turned_down (NoSheet 2) (no_other s e past))
+    on_none past = turned_down (NoSheet 2) (joined_none t i p is_p) (no_other s e past)
 
     on_blank_other : q.standing ≡ Blank → Verdict t i ls (join_call s e) (join_of.joined t i (Some q) p)
-    on_blank_other blank = subst (Verdict t i ls (join_call s e)) (sym (joined_blank t i p is_p q blank)) (turned_down (WrongStanding 2) (nothing_to_join s e (view_q ∙ view_blank q blank)))
+    on_blank_other blank = turned_down (WrongStanding 2) (joined_blank t i p is_p q blank) (nothing_to_join s e (view_q ∙ view_blank q blank))
 
     module _ (few : e < 4) (is_q : q.standing ≡ Open) (c : Str) (to_c : end_told t q ≡ Ok c) where
       held_q : sheet_at ls e ≡ holds q.start (steps_of q)
@@ -122,8 +123,8 @@ module _ {t : Transitions} {i : Independence} (laws : Laws t i) (ls : List Sheet
 
       on_unlike : bytes_eq p.start q.start ≡ false → Verdict t i ls (join_call s e) (join_of.joined t i (Some q) p)
       on_unlike apart =
-          subst (Verdict t i ls (join_call s e)) (sym (joined_unlike t i p is_p q (λ z. blank_not_open q z is_q) StartsDiffer (sym (starts_alike t p q b c false (sym to_b) (sym to_c) (sym apart)))))
-          (turned_down StartsDiffer (other_start s e p.start (steps_of p) q.start (steps_of q) held_p held_q (λ z. both_ways (bytes_eq p.start q.start) apart ((bytes_eq-Decides p.start q.start).1 z))))
+          turned_down StartsDiffer (joined_unlike t i p is_p q (λ z. blank_not_open q z is_q) StartsDiffer (sym (starts_alike t p q b c false (sym to_b) (sym to_c) (sym apart))))
+          (other_start s e p.start (steps_of p) q.start (steps_of q) held_p held_q (λ z. both_ways (bytes_eq p.start q.start) apart ((bytes_eq-Decides p.start q.start).1 z)))
 
       module _ (same : p.start ≡ q.start) where
         held_e : sheet_at ls e ≡ holds p.start (steps_of q)
@@ -144,8 +145,8 @@ module _ {t : Transitions} {i : Independence} (laws : Laws t i) (ls : List Sheet
         clashes : (n : ℕ) → join i (steps_of p) (steps_of q) ≡ Err n → Verdict t i ls (join_call s e) (join_of.joined t i (Some q) p)
         clashes n j =
             let first = clashes_first laws (steps_of p) (steps_of q) n run_p run_q j in
-            subst (Verdict t i ls (join_call s e)) (sym (on_clash laws p q is_p is_q b c to_b to_c same n j))
-            (turned_down (Conflict n) (conflict s e n p.start (steps_of p) (steps_of q) held_p held_e first.0 first.1))
+            turned_down (Conflict n) (on_clash laws p q is_p is_q b c to_b to_c same n j)
+            (conflict s e n p.start (steps_of p) (steps_of q) held_p held_e first.0 first.1)
 
         module _ (j : Joined) (is_j : join i (steps_of p) (steps_of q) ≡ Ok j) where
           by_steps : Joins i (steps_of p) (steps_of q) j.added j.remains
@@ -159,8 +160,8 @@ module _ {t : Transitions} {i : Independence} (laws : Laws t i) (ls : List Sheet
 
           many : 32 < p.len + length j.added → Verdict t i ls (join_call s e) (join_of.joined t i (Some q) p)
           many over =
-              subst (Verdict t i ls (join_call s e)) (sym (on_many laws p q is_p is_q b c to_b to_c same j is_j over))
-              (turned_down (TooMany (p.len + length j.added)) (too_many s e (p.len + length j.added) p.start (steps_of p) (steps_of q) (steps_of p ++ j.added) held_p held_e (joins_merged laws by_steps) (omega (arith, whole)) (sym whole)))
+              turned_down (TooMany (p.len + length j.added)) (on_many laws p q is_p is_q b c to_b to_c same j is_j over)
+              (too_many s e (p.len + length j.added) p.start (steps_of p) (steps_of q) (steps_of p ++ j.added) held_p held_e (joins_merged laws by_steps) (omega (arith, whole)) (sym whole))
 
           module _ (fits : p.len + length j.added ≤ 32) where
             -- a run by the steps of p and some first survivors goes on from the end of p
@@ -172,11 +173,11 @@ module _ {t : Transitions} {i : Independence} (laws : Laws t i) (ls : List Sheet
             far : (f : MaskFault) → led t b j.added ≡ Err f → Verdict t i ls (join_call s e) (join_of.joined t i (Some q) p)
             far f l =
                 let on = joins_runs laws by_steps run_p run_q in
-                let short = joins_short laws by_steps (path_steps laws (replayed_path t p.start (steps_of p) b to_b)) (path_steps laws (replayed_path t q.start (steps_of q) c to_c)) in
+                let short = joins_short laws by_steps (replayed_short laws p.start (steps_of p) b to_b) (replayed_short laws q.start (steps_of q) c to_c) in
                 let h = led_too_long laws j.added b on.0 f (at_b laws p q is_p is_q b c to_b to_c same) short on.1 l in
-                subst (Verdict t i ls (join_call s e)) (sym (on_far laws p q is_p is_q b c to_b to_c same j is_j fits f l ∙ ap (λ g. Err (System g)) h.told))
-                (turned_down (System (Inner (StateTooLong (told_length (length h.state))))) (on_the_way_too_long s e p.start (steps_of p) (steps_of q) j.added h.count h.state (told_length (length h.state)) held_p held_e (joins_merged laws by_steps) (joins_in_turn laws by_steps) (run_append t run_p h.run) h.over refl
-                (λ m d lt r. h.before m d lt (from_b m d r))))
+                turned_down (System (Inner (StateTooLong (told_length (length h.state))))) (on_far laws p q is_p is_q b c to_b to_c same j is_j fits f l ∙ ap (λ g. Err (System g)) h.told)
+                (on_the_way_too_long s e p.start (steps_of p) (steps_of q) j.added h.count h.state (told_length (length h.state)) held_p held_e (joins_merged laws by_steps) (joins_in_turn laws by_steps) (run_append t run_p h.run) h.over refl
+                (λ m d lt r. h.before m d lt (from_b m d r)))
 
             module _ (d : Str) (l : led t b j.added ≡ Ok d) where
               new_path : Path t p.start (steps_of p ++ j.added) d
@@ -191,8 +192,8 @@ module _ {t : Transitions} {i : Independence} (laws : Laws t i) (ls : List Sheet
               no_reason : (f : BenchFault) → Reason t i ls (join_call s e) f → ⊥
               no_reason f (no_sheet c past) = omega (arith, within, past)
               no_reason f (no_other s e past) = omega (arith, few, past)
-              no_reason f (nothing_to_join_to s e h) = let z : ◌≡◌ {A = ℕ} 0 1 = cc (h, held_p) in omega arith
-              no_reason f (nothing_to_join s e h) = let z : ◌≡◌ {A = ℕ} 0 1 = cc (h, held_q) in omega arith
+              no_reason f (nothing_to_join_to s e h) = cc (h, held_p)
+              no_reason f (nothing_to_join s e h) = cc (h, held_q)
               no_reason f (other_start s e a xs a' ys h h' apart) =
                   let first : a ≡ p.start = cc (h, held_p) in
                   let second : a' ≡ q.start = cc (h', held_q) in
@@ -223,10 +224,10 @@ module _ {t : Transitions} {i : Independence} (laws : Laws t i) (ls : List Sheet
               near : Verdict t i ls (join_call s e) (join_of.joined t i (Some q) p)
               near =
                   let after_steps : take (p.len + length j.added) (longer p j.added).rows ≡ steps_of p ++ j.added = written_front p.rows p.len j.added room in
-                  subst (Verdict t i ls (join_call s e)) (sym (on_near laws p q is_p is_q b c to_b to_c same j is_j fits d l))
-                  (carried_out (merged p q j.added) within no_reason
+                  carried_out (merged p q j.added) (on_near laws p q is_p is_q b c to_b to_c same j is_j fits d l)
+                  within no_reason
                   (record { long = written_long p.rows p.len j.added room ∙ sound_p.long; few = fits; stands = subst (Stands t (longer p j.added)) (sym is_p) (d, ap (replayed t p.start) after_steps ∙ path_replayed t p.start (steps_of p) b (steps_of p ++ j.added) d to_b new_path) })
-                  (λ after becomes. joins s e p.start (steps_of p) (steps_of q) j.added d (p.len + length j.added) (q.len - length j.added) held_p held_e (subst (Becomes ls after s) (view_open (longer p j.added) is_p ∙ ap (holds p.start) after_steps) becomes) (path_run laws start_state new_path).0 (joins_merged laws by_steps) (joins_in_turn laws by_steps) (sym whole) (omega (arith, fewer, long_p, long_q))))
+                  (λ after becomes. joins s e p.start (steps_of p) (steps_of q) j.added d (p.len + length j.added) (q.len - length j.added) held_p held_e (subst (Becomes ls after s) (view_open (longer p j.added) is_p ∙ ap (holds p.start) after_steps) becomes) (path_run laws start_state new_path).0 (joins_merged laws by_steps) (joins_in_turn laws by_steps) (sym whole) (omega (arith, fewer, long_p, long_q)))
 
         by_outcome : (o : Result Joined ℕ) → join i (steps_of p) (steps_of q) ≡ o → Verdict t i ls (join_call s e) (join_of.joined t i (Some q) p)
         by_outcome (Err n) is = clashes n is
@@ -245,19 +246,11 @@ module _ {t : Transitions} {i : Independence} (laws : Laws t i) (ls : List Sheet
       on_both true told = by_outcome ((bytes_eq-Decides p.start q.start).0 told) (join i (steps_of p) (steps_of q)) refl
 
     with_other : e < 4 → Verdict t i ls (join_call s e) (join_of.joined t i (Some q) p)
-    with_other few = go (blank_or_open sound_q)
-      where
-        go : (q.standing ≡ Blank) ⊎ ((q.standing ≡ Open) × ((c : Str) × (end_told t q ≡ Ok c))) → Verdict t i ls (join_call s e) (join_of.joined t i (Some q) p)
-        go (inl blank) = on_blank_other blank
-        go (inr (is_q, (c, to_c))) = on_both few is_q c to_c (bytes_eq p.start q.start) refl
+    with_other few = by_standing sound_q on_blank_other (λ is_q c to_c. on_both few is_q c to_c (bytes_eq p.start q.start) refl)
 
   pub joining : (o : Option Page) → ((o ≡ None) × (4 ≤ e)) ⊎ ((o ≡ Some q) × (e < 4)) → Verdict t i ls (join_call s e) (join_of.joined t i o p)
-  joining o there = go (blank_or_open sound_p) there
-    where
-      go : (p.standing ≡ Blank) ⊎ ((p.standing ≡ Open) × ((b : Str) × (end_told t p ≡ Ok b))) → ((o ≡ None) × (4 ≤ e)) ⊎ ((o ≡ Some q) × (e < 4)) → Verdict t i ls (join_call s e) (join_of.joined t i o p)
-      go (inl blank) w = on_blank o blank
-      go (inr (is_p, (b, to_b))) (inl (none, past)) = subst (λ v. Verdict t i ls (join_call s e) (join_of.joined t i v p)) (sym none) (on_none is_p b to_b past)
-      go (inr (is_p, (b, to_b))) (inr (some, few)) = subst (λ v. Verdict t i ls (join_call s e) (join_of.joined t i v p)) (sym some) (with_other is_p b to_b few)
+  joining o (inl (none, past)) = by_standing sound_p (on_blank o) (λ is_p b to_b. subst (λ v. Verdict t i ls (join_call s e) (join_of.joined t i v p)) (sym none) (on_none is_p b to_b past))
+  joining o (inr (some, few)) = by_standing sound_p (on_blank o) (λ is_p b to_b. subst (λ v. Verdict t i ls (join_call s e) (join_of.joined t i v p)) (sym some) (with_other is_p b to_b few))
 
 -- the opposite join ends in the same state
 pub same_end : {t : Transitions} {i : Independence} → Laws t i → (before after after' : List Sheet) (s e n k n' k' : ℕ) → Happens t i before after (join_call s e) (joined_answer n k) → Happens t i before after' (join_call e s) (joined_answer n' k') → (b : Str) × Ends t (sheet_at after s) b × Ends t (sheet_at after' e) b

@@ -1,7 +1,0 @@
-// Calls performed one after the other on a new bench, and the promise that every moment of it keeps.
-// It rests on `bench`, and speaks of its sheets as `runs`.
-#![tactic(auto)]
-
-pub mod call;
-pub mod perform;
-mod turn;
