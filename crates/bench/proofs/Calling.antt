@@ -86,6 +86,24 @@ stands t s p a = go s p.standing
     go Released Open e = ok_not_err a _ e
     go Released Released e = (refl, e)
 
+pub ends_standing : (t : Transitions) (s : Standing) (p : Page) (a : Str) → p.standing ≡ s → Ok a ≡ end_told t p → Ok a ≡ ended t s p
+ends_standing t s p a is e =
+    e ∙ sym (go s)
+    ∙ sym (ap (λ (r : Standing). elim s as (λ _. Result Str BenchFault) [
+      | Blank ↦ elim r as (λ _. Result Str BenchFault) [ Blank ↦ end_told t p | Open ↦ Err (WrongStanding 1) | Released ↦ Err (WrongStanding 1) ]
+      | Open ↦ elim r as (λ _. Result Str BenchFault) [ Blank ↦ Err (WrongStanding 1) | Open ↦ end_told t p | Released ↦ Err (WrongStanding 1) ]
+      | Released ↦ elim r as (λ _. Result Str BenchFault) [ Blank ↦ Err (WrongStanding 1) | Open ↦ Err (WrongStanding 1) | Released ↦ end_told t p ]
+    ]) is)
+  where
+    go : (s : Standing) → elim s as (λ _. Result Str BenchFault) [
+      | Blank ↦ elim s as (λ _. Result Str BenchFault) [ Blank ↦ end_told t p | Open ↦ Err (WrongStanding 1) | Released ↦ Err (WrongStanding 1) ]
+      | Open ↦ elim s as (λ _. Result Str BenchFault) [ Blank ↦ Err (WrongStanding 1) | Open ↦ end_told t p | Released ↦ Err (WrongStanding 1) ]
+      | Released ↦ elim s as (λ _. Result Str BenchFault) [ Blank ↦ Err (WrongStanding 1) | Open ↦ Err (WrongStanding 1) | Released ↦ end_told t p ]
+    ] ≡ end_told t p
+    go Blank = refl
+    go Open = refl
+    go Released = refl
+
 -- it is stopped, or goes on from the end
 module _ (t : Transitions) (s : Standing) (p : Page) (k : Str → Outcome) where
   pub stopped : (f : BenchFault) → Err f ≡ ended t s p → when_standing s p (then (end_told t p) k) ≡ Err f

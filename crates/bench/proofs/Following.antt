@@ -48,17 +48,22 @@ walk_followed t a (x ∷ xs) k = go (next_told t a x 256) (λ b. walk_followed t
     go (Ok b) ih = ih b
     go (Err f) ih = refl
 
-from_start : (t : Transitions) (a : Str) (xs : List Str) → state_told t a ≡ Ok tt → followed t a xs 1 ≡ replayed t a xs
-from_start t a xs ok = sym (ap (λ o. elim o as (λ _. Result Str BenchFault) [ Ok _ ↦ followed t a xs 1 | Err f ↦ Err (Stopped 0 f) ]) ok)
+-- one step on
+abbrev pub then_followed : Transitions → Result Str MaskFault → List Str → ℕ → Result Str BenchFault
+then_followed t r xs k = elim r [ Ok b ↦ followed t b xs (k + 1) | Err f ↦ Err (Stopped k f) ]
+
+-- from a start that is a state
+pub starts : (t : Transitions) (a : Str) (xs : List Str) (r : Result Str BenchFault) → state_told t a ≡ Ok tt → r ≡ followed t a xs 1 → r ≡ replayed t a xs
+starts t a xs r ok e = e ∙ sym (ap (λ o. elim o as (λ _. Result Str BenchFault) [ Ok _ ↦ followed t a xs 1 | Err f ↦ Err (Stopped 0 f) ]) ok)
 
 module _ (t : Transitions) (a : Str) (xs : List Str) (ok : state_told t a ≡ Ok tt) where
   pub arrives : (b : Str) → Ok b ≡ walked t a xs 1 → Ok b ≡ replayed t a xs
   unfolding stopped
-  arrives b e = ap stopped e ∙ walk_followed t a xs 1 ∙ from_start t a xs ok
+  arrives b e = starts t a xs (Ok b) ok (ap stopped e ∙ walk_followed t a xs 1)
 
   pub stops : (h : Halt) → Err h ≡ walked t a xs 1 → Err (Stopped h.number h.fault) ≡ replayed t a xs
   unfolding stopped
-  stops h e = ap stopped e ∙ walk_followed t a xs 1 ∙ from_start t a xs ok
+  stops h e = starts t a xs (Err (Stopped h.number h.fault)) ok (ap stopped e ∙ walk_followed t a xs 1)
 
 unnumbered : Result Str Halt → Result Str MaskFault
 unnumbered (Ok b) = Ok b

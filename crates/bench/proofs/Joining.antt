@@ -1,5 +1,5 @@
 -- How a join comes out, and the rows that it writes. Assumes nothing.
-use Rattle.std.proofs.Common.{◌≡◌, ℕ, ◌+◌, ◌<◌, ◌≤◌, true, cond, leb, List, length, is_ok, Some, None, Ok, Err, Result, sym, refl, ap, ◌∙◌, ap₂}
+use Rattle.std.proofs.Common.{◌≡◌, ℕ, Bool, ◌+◌, ◌<◌, ◌≤◌, true, cond, leb, List, length, is_ok, Some, None, Ok, Err, Result, sym, refl, ap, ◌∙◌, ap₂}
 use Rattle.std.proofs.lemmas.Bool.{cond-true, cond-false, le-leb, lt-leb}
 use Rattle.std.specs.Str.{bytes_eq}
 use Rattle.steps.specs.Meaning.{Str, Transitions, Independence}
@@ -22,6 +22,10 @@ and_then_err r k f e = sym (ap (λ w. and_then w k) e)
 
 and_then_ok : {A B : Type 0} (r : Result A BenchFault) (k : A → Result B BenchFault) (a : A) → Ok a ≡ r → and_then r k ≡ k a
 and_then_ok r k a e = sym (ap (λ w. and_then w k) e)
+
+-- the starts, and the rooms
+pub starts_alike : (t : Transitions) (p e : Page) (a b : Str) (r : Bool) → Ok a ≡ end_told t p → Ok b ≡ end_told t e → r ≡ bytes_eq p.start e.start → alike t p e ≡ cond r (Ok a) (Err StartsDiffer)
+starts_alike t p e a b r first second same = and_then_ok (end_told t p) _ a first ∙ and_then_ok (end_told t e) _ b second ∙ ap (λ s. cond s (Ok a) (Err StartsDiffer)) (sym same)
 
 -- sheets that start alike replay
 pub alike_ok : (t : Transitions) (p e : Page) (a : Str) → alike t p e ≡ Ok a → (is_ok (end_told t p) ≡ true) × (is_ok (end_told t e) ≡ true)

@@ -11,6 +11,7 @@ use Rattle.joins.proofs.Carrying.{short_at}
 use Rattle.bench.specs.declared.fault.BenchFault.{BenchFault}
 use Rattle.bench.specs.declared.fault.BenchFault.TheVariants.{Stopped}
 use Rattle.bench.specs.Replay.{followed, replayed}
+use Rattle.bench.proofs.Following.{then_followed}
 
 -- an answer that is no refusal
 pub ok_is : {A F : Type 0} (r : Result A F) → is_ok r ≡ true → (a : A) × (r ≡ Ok a)
@@ -22,7 +23,7 @@ module _ {t : Transitions} {i : Independence} (laws : Laws t i) where
   followed_short [] a k b e = tt
   followed_short (x ∷ xs) a k b e = go (next_told t a x 256) refl e (λ c. followed_short xs c (k + 1) b)
     where
-      go : (r : Result Str MaskFault) → next_told t a x 256 ≡ r → elim r as (λ _. Result Str BenchFault) [ Ok b ↦ followed t b xs (k + 1) | Err f ↦ Err (Stopped k f) ] ≡ Ok b → ((c : Str) → followed t c xs (k + 1) ≡ Ok b → ShortSteps t xs) → ShortSteps t (x ∷ xs)
+      go : (r : Result Str MaskFault) → next_told t a x 256 ≡ r → then_followed t r xs k ≡ Ok b → ((c : Str) → followed t c xs (k + 1) ≡ Ok b → ShortSteps t xs) → ShortSteps t (x ∷ xs)
       go (Err f) n p ih = ok_not_err b (Stopped k f) (sym p)
       go (Ok c) n p ih = let f = next_ok t a x c 256 n in ((laws.steps_told x).0 (f.shaped, f.shown), ih c p)
 

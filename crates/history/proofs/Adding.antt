@@ -15,7 +15,7 @@ use Rattle.bench.specs.declared.sheet.Standing.TheVariants.{Blank, Open}
 use Rattle.bench.specs.Page.{Page, steps_of}
 use Rattle.bench.specs.Replay.{end_told, replayed}
 use Rattle.bench.specs.Calls.{added}
-use Rattle.bench.proofs.Calling.{not_open, added_full, added_refused, added_last}
+use Rattle.bench.proofs.Calling.{ends_standing, not_open, added_full, added_refused, added_last}
 use Rattle.history.specs.History.{Sheet, sheet_at, Becomes, Reason}
 use Rattle.history.specs.History.Sheet.{holds}
 use Rattle.history.specs.History.CallView.{add}
@@ -44,7 +44,7 @@ module _ {t : Transitions} {i : Independence} (laws : Laws t i) (ls : List Sheet
 
     on_full : 32 ≤ p.len → Verdict t i ls (add s x) (added t x 256 p)
     on_full many =
-        turned_down Full (added_full t p x 256 e b (sym r) many)
+        turned_down Full (added_full t p x 256 b (ends_standing t Open p b e (sym r)) many)
         (full s x p.start (steps_of p) held (omega (arith, length-take p.len p.rows, sound.long)))
 
     why : {f : MaskFault} → Unable t b x f → Reason t i ls (add s x) (System f)
@@ -54,7 +54,7 @@ module _ {t : Transitions} {i : Independence} (laws : Laws t i) (ls : List Sheet
 
     not_followed : (f : MaskFault) → p.len < 32 → next_told t b x 256 ≡ Err f → Verdict t i ls (add s x) (added t x 256 p)
     not_followed f lt n =
-        turned_down (System f) (added_refused t p x 256 e b (sym r) f lt n)
+        turned_down (System f) (added_refused t p x 256 b (ends_standing t Open p b e (sym r)) f lt n)
         (why (unable laws b x (replayed_run laws p.start (steps_of p) b r).1 f n))
 
     grown : p.len < 32 → take (p.len + 1) (set p.rows p.len x) ≡ steps_of p ++ x ∷ []
@@ -84,7 +84,7 @@ module _ {t : Transitions} {i : Independence} (laws : Laws t i) (ls : List Sheet
     followed_by : (c : Str) → p.len < 32 → next_told t b x 256 ≡ Ok c → Verdict t i ls (add s x) (added t x 256 p)
     followed_by c lt n =
         let more = replayed_snoc t p.start (steps_of p) b x c r n in
-        carried_out _ (added_last t p x 256 e b (sym r) c lt n)
+        carried_out _ (added_last t p x 256 b (ends_standing t Open p b e (sym r)) c lt n)
         within (no_reason c lt n)
         (record { long = length-set p.rows p.len x ∙ sound.long; few = omega arith; stands = (c, subst (λ xs. replayed t p.start xs ≡ Ok c) (sym (grown lt)) more) })
         (λ after q. adds s x p.start (steps_of p) c held (subst (λ xs. Becomes ls after s (holds p.start xs)) (grown lt) q) (replayed_run laws p.start (steps_of p ++ x ∷ []) c more).0)

@@ -24,7 +24,7 @@ use Rattle.bench.specs.Page.{Page, steps_of}
 use Rattle.bench.specs.Replay.{end_told, replayed}
 use Rattle.bench.specs.Swap.{with_neighbours}
 use Rattle.bench.specs.Swap as swap_of
-use Rattle.bench.proofs.Calling.{not_open}
+use Rattle.bench.proofs.Calling.{ends_standing, not_open}
 use Rattle.bench.proofs.Swapping.{swapped_nowhere, swapped_refused, swapped_dependent, swapped_too_long, swapped_done}
 use Rattle.history.specs.History.{Sheet, sheet_at, Becomes, Reason}
 use Rattle.history.specs.History.Sheet.{holds}
@@ -56,7 +56,7 @@ module _ {t : Transitions} {i : Independence} (laws : Laws t i) (ls : List Sheet
 
     nowhere : (n ≡ 0) ⊎ ((n ≡ 0 → ⊥) × (p.len ≤ n)) → Verdict t i ls (swap s n) (swap_of.swapped t i n p)
     nowhere w =
-        turned_down (NoSuchStep n) (swapped_nowhere t i p n e z (sym r) w)
+        turned_down (NoSuchStep n) (swapped_nowhere t i p n z (ends_standing t Open p z e (sym r)) w)
         (no_neighbours s n p.start (steps_of p) held (why w))
       where
         why : (n ≡ 0) ⊎ ((n ≡ 0 → ⊥) × (p.len ≤ n)) → (n ≡ 0) ⊎ (length (steps_of p) ≤ n)
@@ -84,7 +84,7 @@ module _ {t : Transitions} {i : Independence} (laws : Laws t i) (ls : List Sheet
 
       on_dependent : i.back x w ≡ None → Verdict t i ls (swap s n) (swap_of.swapped t i n p)
       on_dependent none =
-          turned_down (Dependent n) (swapped_dependent t i p n e z (sym r) above below (sym (told ∙ ap (λ o. turned i x (step_fits o 64)) none)))
+          turned_down (Dependent n) (swapped_dependent t i p n z (ends_standing t Open p z e (sym r)) above below (sym (told ∙ ap (λ o. turned i x (step_fits o 64)) none)))
           (dependent s n p.start front x w rest stands place (λ y h. some_not_none y (sym ((laws.origin x y w).1 h) ∙ none)))
 
       module _ (y : Str) (back : i.back x w ≡ Some y) where
@@ -95,7 +95,7 @@ module _ {t : Transitions} {i : Independence} (laws : Laws t i) (ls : List Sheet
         on_over over =
             let f : MaskFault = Inner (StepTooLong (told_length (length y))) in
             let fits : step_fits (Some y) 64 ≡ Err f = cond-false (leb (length y) 64) (Ok (Some y)) (Err f) (lt-leb _ _ over) in
-            turned_down (System f) (swapped_refused t i p n e z (sym r) above below f (sym (told ∙ ap (λ o. turned i x (step_fits o 64)) back ∙ ap (turned i x) fits)))
+            turned_down (System f) (swapped_refused t i p n z (ends_standing t Open p z e (sym r)) above below f (sym (told ∙ ap (λ o. turned i x (step_fits o 64)) back ∙ ap (turned i x) fits)))
             (step_over s n p.start front x w rest y (told_length (length y)) stands place left_y over refl)
 
         -- the states on the way: a before x, b behind it, c behind both, d behind y
@@ -124,7 +124,7 @@ module _ {t : Transitions} {i : Independence} (laws : Laws t i) (ls : List Sheet
           on_far : 256 < length d → Verdict t i ls (swap s n) (swap_of.swapped t i n p)
           on_far far =
               let f : MaskFault = Inner (StateTooLong (told_length (length d))) in
-              turned_down (System f) (swapped_too_long t i p n e z (sym r) above below (record { first = y; second = x' }) (sym pair) a f (sym before_a) (sym (next_over laws a y d step_y at_a to_d far)))
+              turned_down (System f) (swapped_too_long t i p n z (ends_standing t Open p z e (sym r)) above below (record { first = y; second = x' }) (sym pair) a f (sym before_a) (sym (next_over laws a y d step_y at_a to_d far)))
               (between_too_long s n p.start front x w rest y a d (told_length (length d)) stands place left_y (path_run laws start to_a).0 to_d far refl)
 
           module _ (near : length d ≤ 256) where
@@ -171,7 +171,7 @@ module _ {t : Transitions} {i : Independence} (laws : Laws t i) (ls : List Sheet
             on_near : Verdict t i ls (swap s n) (swap_of.swapped t i n p)
             on_near =
                 let x_y : Pair = record { first = y; second = x' } in
-                carried_out _ (swapped_done t i p n e z (sym r) above below x_y (sym pair) a d (sym before_a) (sym (next_within laws a y d step_y at_a to_d near)))
+                carried_out _ (swapped_done t i p n z (ends_standing t Open p z e (sym r)) above below x_y (sym pair) a d (sym before_a) (sym (next_within laws a y d step_y at_a to_d near)))
                 within no_reason
                 (record { long = length-set (set p.rows (n - 1) y) n x' ∙ length-set p.rows (n - 1) y ∙ sound.long; few = sound.few; stands = (z, ap (replayed t p.start) (other y x') ∙ path_replayed t p.start (steps_of p) z (front ++ y ∷ x' ∷ rest) z r new_path) })
                 (λ after q. swaps s n p.start front x w y x' rest z stands place left_y left_x (subst (λ l. Becomes ls after s (holds p.start l)) (other y x') q) (path_run laws start old_path).0 (path_run laws start new_path).0 (extends_exchanged (exchanged_one (exchange_sym exchange))) (extends_exchanged (exchanged_one exchange)))

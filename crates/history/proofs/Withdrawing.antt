@@ -10,7 +10,7 @@ use Rattle.bench.specs.declared.sheet.Standing.TheVariants.{Blank, Open}
 use Rattle.bench.specs.Page.{Page, steps_of}
 use Rattle.bench.specs.Replay.{end_told, replayed}
 use Rattle.bench.specs.Calls.{withdrawn}
-use Rattle.bench.proofs.Calling.{not_open, withdrawn_none, withdrawn_last}
+use Rattle.bench.proofs.Calling.{ends_standing, not_open, withdrawn_none, withdrawn_last}
 use Rattle.history.specs.History.{Sheet, sheet_at, Reason}
 use Rattle.history.specs.History.Sheet.{holds}
 use Rattle.history.specs.History.CallView.{withdraw}
@@ -34,7 +34,7 @@ module _ {t : Transitions} {i : Independence} (laws : Laws t i) (ls : List Sheet
 
     on_none : p.len ≡ 0 → Verdict t i ls (withdraw s) (withdrawn t 256 p)
     on_none none =
-        turned_down (NoSuchStep 0) (withdrawn_none t p 256 e z (sym r) none)
+        turned_down (NoSuchStep 0) (withdrawn_none t p 256 z (ends_standing t Open p z e (sym r)) none)
         (no_steps s p.start (held ∙ ap (λ n. holds p.start (take n p.rows)) none))
 
     last : 0 < p.len → steps_of p ≡ take (p.len - 1) p.rows ++ get_or p.rows (p.len - 1) [] ∷ []
@@ -54,7 +54,7 @@ module _ {t : Transitions} {i : Independence} (laws : Laws t i) (ls : List Sheet
         let xs = take (p.len - 1) p.rows in
         let x = get_or p.rows (p.len - 1) [] in
         let u = replayed_unsnoc t p.start xs x z (subst (λ ys. replayed t p.start ys ≡ Ok z) (last some) r) in
-        carried_out _ (withdrawn_last t p 256 e z (sym r) u.0 u.0 some (sym u.1) (replayed_fits laws p.start xs u.0 u.1))
+        carried_out _ (withdrawn_last t p 256 z (ends_standing t Open p z e (sym r)) u.0 u.0 some (sym u.1) (replayed_fits laws p.start xs u.0 u.1))
         within (no_reason some)
         (record { long = sound.long; few = omega (arith, sound.few); stands = (u.0, u.1) })
         (λ after q. withdraws s p.start xs x u.0 (held ∙ ap (holds p.start) (last some)) q (replayed_run laws p.start xs u.0 u.1).0)
