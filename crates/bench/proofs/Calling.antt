@@ -15,10 +15,10 @@ use Rattle.byte_strings.specs.Fitted.{fitted}
 use Rattle.bench.specs.Replay.{replayed, end_told, ended}
 use Rattle.bench.specs.Calls.{Outcome, then, from_system, when_open, when_standing, unless_released, opened, added, withdrawn}
 
-pub then_err : (r : Result Str BenchFault) (k : Str → Outcome) (f : BenchFault) → Err f ≡ r → then r k ≡ Err f
+pub then_err : {A B : Type 0} (r : Result A BenchFault) (k : A → Result B BenchFault) (f : BenchFault) → Err f ≡ r → then r k ≡ Err f
 then_err r k f e = sym (ap (λ w. then w k) e)
 
-pub then_ok : (r : Result Str BenchFault) (k : Str → Outcome) (a : Str) → Ok a ≡ r → then r k ≡ k a
+pub then_ok : {A B : Type 0} (r : Result A BenchFault) (k : A → Result B BenchFault) (a : A) → Ok a ≡ r → then r k ≡ k a
 then_ok r k a e = sym (ap (λ w. then w k) e)
 
 module _ (p : Page) where

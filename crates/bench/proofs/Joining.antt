@@ -13,25 +13,19 @@ use Rattle.bench.specs.declared.sheet.Standing.{Standing}
 use Rattle.bench.specs.declared.sheet.Standing.TheVariants.{Blank, Open, Released}
 use Rattle.bench.specs.Page.{Page, steps_of}
 use Rattle.bench.specs.Replay.{end_told}
-use Rattle.bench.specs.Calls.{Outcome, from_system}
-use Rattle.bench.specs.Join.{led, and_then, alike, fitting, surviving, merged, unless_blank, joined}
-use Rattle.bench.proofs.Calling.{is_open}
-
-and_then_err : {A B : Type 0} (r : Result A BenchFault) (k : A → Result B BenchFault) (f : BenchFault) → Err f ≡ r → and_then r k ≡ Err f
-and_then_err r k f e = sym (ap (λ w. and_then w k) e)
-
-and_then_ok : {A B : Type 0} (r : Result A BenchFault) (k : A → Result B BenchFault) (a : A) → Ok a ≡ r → and_then r k ≡ k a
-and_then_ok r k a e = sym (ap (λ w. and_then w k) e)
+use Rattle.bench.specs.Calls.{Outcome, then, from_system}
+use Rattle.bench.specs.Join.{led, alike, fitting, surviving, merged, unless_blank, joined}
+use Rattle.bench.proofs.Calling.{then_err, then_ok, is_open}
 
 -- the starts, and the rooms
 pub starts_alike : (t : Transitions) (p e : Page) (a b : Str) (r : Bool) → Ok a ≡ end_told t p → Ok b ≡ end_told t e → r ≡ bytes_eq p.start e.start → alike t p e ≡ cond r (Ok a) (Err StartsDiffer)
-starts_alike t p e a b r first second same = and_then_ok (end_told t p) _ a first ∙ and_then_ok (end_told t e) _ b second ∙ ap (λ s. cond s (Ok a) (Err StartsDiffer)) (sym same)
+starts_alike t p e a b r first second same = then_ok (end_told t p) _ a first ∙ then_ok (end_told t e) _ b second ∙ ap (λ s. cond s (Ok a) (Err StartsDiffer)) (sym same)
 
 -- sheets that start alike replay
 pub alike_ok : (t : Transitions) (p e : Page) (a : Str) → alike t p e ≡ Ok a → (is_ok (end_told t p) ≡ true) × (is_ok (end_told t e) ≡ true)
 alike_ok t p e a h = go (end_told t p) (end_told t e) h
   where
-    go : (r s : Result Str BenchFault) → and_then r (λ a. and_then s (λ _. cond (bytes_eq p.start e.start) (Ok a) (Err StartsDiffer))) ≡ Ok a → (is_ok r ≡ true) × (is_ok s ≡ true)
+    go : (r s : Result Str BenchFault) → then r (λ a. then s (λ _. cond (bytes_eq p.start e.start) (Ok a) (Err StartsDiffer))) ≡ Ok a → (is_ok r ≡ true) × (is_ok s ≡ true)
     go (Ok b) (Ok c) h = (refl, refl)
     go (Ok b) (Err f) h = ok_not_err a f (sym h)
     go (Err f) s h = ok_not_err a f (sym h)
@@ -47,14 +41,14 @@ module _ (t : Transitions) (i : Independence) (a : Str) (p e : Page) where
     pub too_many : 32 < p.len + length added → surviving t i a p e ≡ Err (TooMany (p.len + length added))
     too_many over = sym (ap (fitting t a p.len) is) ∙ cond-false (leb (p.len + length added) 32) _ _ (lt-leb _ _ over)
 
-    room : p.len + length added ≤ 32 → surviving t i a p e ≡ and_then (from_system (led t a added)) (λ _. Ok added)
+    room : p.len + length added ≤ 32 → surviving t i a p e ≡ then (from_system (led t a added)) (λ _. Ok added)
     room fits = sym (ap (fitting t a p.len) is) ∙ cond-true (leb (p.len + length added) 32) _ _ (le-leb _ _ fits)
 
     pub stops_on_the_way : p.len + length added ≤ 32 → (f : MaskFault) → Err f ≡ led t a added → surviving t i a p e ≡ Err (System f)
-    stops_on_the_way fits f l = room fits ∙ and_then_err _ _ (System f) (ap from_system l)
+    stops_on_the_way fits f l = room fits ∙ then_err _ _ (System f) (ap from_system l)
 
     pub survives : p.len + length added ≤ 32 → (b : Str) → Ok b ≡ led t a added → surviving t i a p e ≡ Ok added
-    survives fits b l = room fits ∙ and_then_ok _ _ b (ap from_system l)
+    survives fits b l = room fits ∙ then_ok _ _ b (ap from_system l)
 
 -- the other sheet
 pub was_blank : (e : Page) (o : Outcome) → e.standing ≡ Blank → unless_blank e o ≡ Err (WrongStanding 2)
@@ -77,15 +71,15 @@ module _ (t : Transitions) (i : Independence) (p : Page) (is : p.standing ≡ Op
     joined_blank s = is_open p _ is ∙ was_blank e _ s
 
     module _ (some : e.standing ≡ Blank → ⊥) where
-      begun : joined t i (Some e) p ≡ and_then (alike t p e) (λ a. and_then (surviving t i a p e) (λ added. Ok (merged p e added)))
+      begun : joined t i (Some e) p ≡ then (alike t p e) (λ a. then (surviving t i a p e) (λ added. Ok (merged p e added)))
       begun = is_open p _ is ∙ not_blank e _ some
 
       pub joined_unlike : (f : BenchFault) → Err f ≡ alike t p e → joined t i (Some e) p ≡ Err f
-      joined_unlike f s = begun ∙ and_then_err _ _ f s
+      joined_unlike f s = begun ∙ then_err _ _ f s
 
       module _ (a : Str) (start : Ok a ≡ alike t p e) where
         pub joined_refused : (f : BenchFault) → Err f ≡ surviving t i a p e → joined t i (Some e) p ≡ Err f
-        joined_refused f s = begun ∙ and_then_ok _ _ a start ∙ and_then_err _ _ f s
+        joined_refused f s = begun ∙ then_ok _ _ a start ∙ then_err _ _ f s
 
         pub joined_done : (added : List Str) → Ok added ≡ surviving t i a p e → joined t i (Some e) p ≡ Ok (merged p e added)
-        joined_done added s = begun ∙ and_then_ok _ _ a start ∙ and_then_ok _ _ added s
+        joined_done added s = begun ∙ then_ok _ _ a start ∙ then_ok _ _ added s

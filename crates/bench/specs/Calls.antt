@@ -32,8 +32,8 @@ abbrev pub after : Outcome → Page → Page
 after (Ok d) p = d.page
 after (Err f) p = p
 
--- the first refusal, or what comes of the string
-abbrev pub then : Result Str BenchFault → (Str → Outcome) → Outcome
+-- the first refusal, or what comes of the answer
+abbrev pub then : {A B : Type 0} → Result A BenchFault → (A → Result B BenchFault) → Result B BenchFault
 then (Ok a) k = k a
 then (Err f) k = Err f
 

@@ -12,29 +12,24 @@ use Rattle.bench.specs.declared.sheet.Standing.TheVariants.{Blank, Open, Release
 use Rattle.bench.specs.declared.sheet.Sheet.{Sheet}
 use Rattle.bench.specs.Page.{Page, page_of, steps_of}
 use Rattle.bench.specs.Replay.{end_told}
-use Rattle.bench.specs.Calls.{Done, Outcome, from_system, when_open}
+use Rattle.bench.specs.Calls.{Done, Outcome, then, from_system, when_open}
 
 -- the state that steps lead to, or why one does not follow
 abbrev pub led : Transitions → Str → List Str → Result Str MaskFault
 led t a [] = Ok a
 led t a (x ∷ xs) = elim (next_told t a x 256) [ Ok b ↦ led t b xs | Err f ↦ Err f ]
 
--- the first refusal, or what comes of the answer
-abbrev pub and_then : {A B : Type 0} → Result A BenchFault → (A → Result B BenchFault) → Result B BenchFault
-and_then (Ok a) k = k a
-and_then (Err f) k = Err f
-
 -- both sheets replay and start alike: the end of the first
 abbrev pub alike : Transitions → Page → Page → Result Str BenchFault
 alike t p e =
-    and_then (end_told t p) (λ a.
-    and_then (end_told t e) (λ _.
+    then (end_told t p) (λ a.
+    then (end_told t e) (λ _.
     cond (bytes_eq p.start e.start) (Ok a) (Err StartsDiffer)))
 
 -- steps that survive, behind n steps that end in a: there must be room for them, and for the states that they lead to
 abbrev pub fitting : Transitions → Str → ℕ → Result (List Str) ℕ → Result (List Str) BenchFault
 fitting t a n (Err k) = Err (Conflict k)
-fitting t a n (Ok added) = cond (nat_le (n + length added) 32) (and_then (from_system (led t a added)) (λ _. Ok added)) (Err (TooMany (n + length added)))
+fitting t a n (Ok added) = cond (nat_le (n + length added) 32) (then (from_system (led t a added)) (λ _. Ok added)) (Err (TooMany (n + length added)))
 
 -- the steps of e that survive behind those of p, which ends in a
 abbrev pub surviving : Transitions → Independence → Str → Page → Page → Result (List Str) BenchFault
@@ -59,7 +54,7 @@ abbrev pub joined : Transitions → Independence → Option Page → Page → Ou
 joined t i other p =
     when_open p (elim other [
       | None ↦ Err (NoSheet 2)
-      | Some e ↦ unless_blank e (and_then (alike t p e) (λ a. and_then (surviving t i a p e) (λ added. Ok (merged p e added))))
+      | Some e ↦ unless_blank e (then (alike t p e) (λ a. then (surviving t i a p e) (λ added. Ok (merged p e added))))
     ])
 
 -- a sheet that was named, and the pair of numbers that a join answers
