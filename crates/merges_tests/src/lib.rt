@@ -7,6 +7,7 @@ mod tests {
     use bench::fault::BenchFault;
     use merges::call::{Answer, Call};
     use merges::perform::perform;
+    use steps::fault::Refusal;
     use toys::commuting::Commuting;
     use toys::sequential::Sequential;
 
@@ -34,7 +35,7 @@ mod tests {
     }
 
     fn refused(fault: BenchFault) -> Shown {
-        let refusal = fault.refusal();
+        let refusal = Refusal::from(fault);
         Shown::Refused(refusal.number, refusal.place)
     }
 

@@ -35,9 +35,7 @@ impl Session {
             self.line.push(byte);
             return Some(0);
         }
-        let Some(n) = self.server.answer(self.line.text(), out) else {
-            return None;
-        };
+        let n = self.server.answer(self.line.text(), out)?;
         self.line = Held::empty();
         Some(n)
     }
