@@ -7,7 +7,7 @@ use crate::setup::Setup;
 use nets::event::Event;
 
 // Events of seventeen bytes, one behind the other: an action, and the sets before and after it.
-#[derive(Clone, Copy)]
+#[derive(Drop)]
 pub struct Events<'a> {
     pub rest: &'a [u8],
 }

@@ -27,6 +27,8 @@ impl Server {
 
     // Answers a line: the text stands at the front of `out`, and its length is the answer.
     // None, and nothing is done, where `out` has no room for the longest text.
+    // It stays a call, so that the loop over the bytes of input is short.
+    #[inline(never)]
     #[tactic(auto, using(crate::proofs::Setups::setups_give_nets))]
     pub fn answer(&mut self, line: &[u8], out: &mut [u8]) -> Option<usize>
         ensures answer { result ≡ reply_length (line_reply (model_of self.old) line.now) (length out.old) }
