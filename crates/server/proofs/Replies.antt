@@ -7,7 +7,7 @@ use Rattle.byte_strings.specs.Buffer.{Str, over, count, kept}
 use Rattle.hexadecimal.specs.Line.{line}
 use Rattle.hexadecimal.proofs.Lines.{length_line}
 use Rattle.steps.specs.declared.fault.Refusal.{Refusal}
-use Rattle.steps.proofs.Answered.{counted, ok_not_err}
+use Rattle.steps.proofs.Answered.{counted, not_counted, ok_not_err}
 use Rattle.bench.specs.declared.fault.BenchFault.{BenchFault}
 use Rattle.steps.specs.Meaning.{Transitions}
 use Rattle.bench.specs.Page.{Page}
@@ -21,14 +21,10 @@ use Rattle.server.specs.declared.fault.Fault.TheVariants.{Frame, Call}
 use Rattle.server.specs.Text.{text_limit, refusal_bytes, beneath_bytes, call_text, print_text, told_line, Answers}
 use Rattle.server.specs.Answer.{Model, Reply, reply_length, reply_buffer, reply_model}
 
--- an outcome that was sent back
+-- a call that was sent back
 not_accepted : (o : Outcome) (f : BenchFault) → Err f ≡ accepted o → o ≡ Err f
 not_accepted (Ok d) f e = ok_not_err tt f (sym e)
 not_accepted (Err g) f e = ap Err (cc)
-
-not_answered : (o : Outcome) (f : BenchFault) → Err f ≡ count (answered o) → o ≡ Err f
-not_answered (Ok d) f e = ok_not_err (length d.answer) f (sym e)
-not_answered (Err g) f e = ap Err (cc)
 
 -- a fault that tells a text
 tells : (text : Str) (f : Fault) (r : Result ℕ Fault) (old new : Str) → text ≡ told_line f → new ≡ old → IsErrAnd r (λ e. e ≡ f) → Answers text r old new
@@ -39,14 +35,14 @@ pub sent_back : (o : Outcome) (f : BenchFault) (r : Result ℕ Fault) (old : Str
 sent_back o f r old e is = tells _ (Call f) r old old (ap (λ w. call_text (answered w)) (not_accepted o f e)) refl is
 
 pub step_sent_back : (o : Outcome) (f : BenchFault) (r : Result ℕ Fault) (old : Str) → Err f ≡ count (answered o) → IsErrAnd r (λ e. e ≡ Call f) → Answers (call_text (answered o)) r old old
-step_sent_back o f r old e is = tells _ (Call f) r old old (ap (λ w. call_text (answered w)) (not_answered o f e)) refl is
+step_sent_back o f r old e is = tells _ (Call f) r old old (ap call_text (not_counted (answered o) f e)) refl is
 
 pub print_sent_back : (t : Transitions) (ps : List Page) (s : ℕ) (f : BenchFault) (r : Result ℕ Fault) (old new : Str) → length old ≡ text_limit → Err f ≡ count (answered (on_sheet ps s (printed t (length old)))) → new ≡ kept (answered (on_sheet ps s (printed t (length old)))) old → IsErrAnd r (λ e. e ≡ Call f)
     → Answers (print_text (answered (on_sheet ps s (printed t text_limit)))) r old new
 print_sent_back t ps s f r old new long e left is =
-    let back : on_sheet ps s (printed t (length old)) ≡ Err f = not_answered _ f e in
-    let same : on_sheet ps s (printed t text_limit) ≡ Err f = ap (λ n. on_sheet ps s (printed t n)) (sym long) ∙ back in
-    tells _ (Call f) r old new (ap (λ o. print_text (answered o)) same) (left ∙ ap (λ o. kept (answered o) old) back) is
+    let back = not_counted (answered (on_sheet ps s (printed t (length old)))) f e in
+    let same = ap (λ n. answered (on_sheet ps s (printed t n))) (sym long) ∙ back in
+    tells _ (Call f) r old new (ap print_text same) (left ∙ ap (λ w. kept w old) back) is
 
 -- a text that is in a buffer with room for the longest
 pub written : (text w o now : Str) (n : ℕ) → length now ≡ text_limit → text ≡ w → n ≡ length w → now ≡ over w o → Answers text (Ok n) o now

@@ -20,6 +20,7 @@ impl Server {
         ensures answer { Answers (frame_reply (model_of self.old) (frame_view frame.entry)).text result out.old out.new }
         ensures model { model_of self.new ≡ (frame_reply (model_of self.old) (frame_view frame.entry)).model }
     {
+        // What an accepted call answers is the first n bytes, but for a printed text.
         let mut end = [0u8; 256];
         let n = match frame {
             Frame::Setup(setup) => {
