@@ -32,81 +32,37 @@ pub enum BenchFault {
 }
 
 impl BenchFault {
-    // How the refusal is told.
-    pub fn refusal(self) -> Refusal
-        ensures { result ≡ bench_refusal self }
-    {
-        match self {
-            BenchFault::NoSheet(place) => Refusal {
-                number: 3,
-                layer: 2,
-                place,
-            },
-            BenchFault::WrongStanding(place) => Refusal {
-                number: 3,
-                layer: 2,
-                place,
-            },
-            BenchFault::System(fault) => fault.refusal(),
-            BenchFault::TextTooLong(place) => Refusal {
-                number: 8,
-                layer: 2,
-                place,
-            },
-            BenchFault::Full => Refusal {
-                number: 9,
-                layer: 2,
-                place: 32,
-            },
-            BenchFault::NoSuchStep(place) => Refusal {
-                number: 10,
-                layer: 2,
-                place,
-            },
-            BenchFault::Dependent(place) => Refusal {
-                number: 11,
-                layer: 2,
-                place,
-            },
-            BenchFault::StartsDiffer => Refusal {
-                number: 13,
-                layer: 2,
-                place: 0,
-            },
-            BenchFault::Conflict(place) => Refusal {
-                number: 14,
-                layer: 2,
-                place,
-            },
-            BenchFault::TooMany(place) => Refusal {
-                number: 15,
-                layer: 2,
-                place,
-            },
-            BenchFault::Stopped(place, _) => Refusal {
-                number: 16,
-                layer: 2,
-                place,
-            },
-        }
-    }
-
     // The refusal that is told beneath it: the one that stopped a replay.
     pub fn cause(self) -> Option<Refusal>
         ensures { result ≡ beneath self }
     {
         match self {
-            BenchFault::Stopped(_, fault) => Some(fault.refusal()),
-            BenchFault::NoSheet(_) => None,
-            BenchFault::WrongStanding(_) => None,
-            BenchFault::System(_) => None,
-            BenchFault::TextTooLong(_) => None,
-            BenchFault::Full => None,
-            BenchFault::NoSuchStep(_) => None,
-            BenchFault::Dependent(_) => None,
-            BenchFault::StartsDiffer => None,
-            BenchFault::Conflict(_) => None,
-            BenchFault::TooMany(_) => None,
+            BenchFault::Stopped(_, fault) => Some(fault.into()),
+            _ => None,
+        }
+    }
+}
+
+impl From<BenchFault> for Refusal {
+    ghost from_gives = { λ f r. r ≡ bench_refusal f };
+
+    fn from(fault: BenchFault) -> Refusal {
+        let (number, place) = match fault {
+            BenchFault::System(fault) => return fault.into(),
+            BenchFault::NoSheet(place) | BenchFault::WrongStanding(place) => (3, place),
+            BenchFault::TextTooLong(needed) => (8, needed),
+            BenchFault::Full => (9, 32),
+            BenchFault::NoSuchStep(place) => (10, place),
+            BenchFault::Dependent(place) => (11, place),
+            BenchFault::StartsDiffer => (13, 0),
+            BenchFault::Conflict(place) => (14, place),
+            BenchFault::TooMany(len) => (15, len),
+            BenchFault::Stopped(place, _) => (16, place),
+        };
+        Refusal {
+            number,
+            layer: 2,
+            place,
         }
     }
 }

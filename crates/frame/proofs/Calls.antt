@@ -1,14 +1,9 @@
 -- The calls of frames: what is told of a frame whose first byte was taken off.
-use Rattle.std.proofs.Common.{◌≡◌, ℕ, ◌-◌, ◌≤◌, leb, List, [], ◌∷◌, length, get_or, take, drop, Ok, Err, ap, arith}
-use Rattle.std.proofs.lemmas.List.{take_rest}
+use Rattle.std.proofs.Common.{◌≡◌, ℕ, ◌≤◌, leb, List, [], ◌∷◌, length, get_or, drop, Err, ap, arith}
 use Rattle.std.proofs.lemmas.Bool.{le-leb, cond-true}
 use Rattle.frame.specs.declared.fault.FrameFault.TheVariants.{Malformed}
-use Rattle.frame.specs.Frames.{FrameView, frame_limit}
-use Rattle.frame.specs.Reading.{sheet_rest_told, call_told, bytes_told, frame_told}
-
-pub sheet_rest_read : (call : ℕ → List ℕ → FrameView) (s : List ℕ) → 1 ≤ length s → Ok (call (get_or s 0 0) (take (length s - 1) (drop 1 s))) ≡ sheet_rest_told call s
-sheet_rest_read call [] h = absurd (omega arith)
-sheet_rest_read call (sheet ∷ rest) h = ap (λ t. Ok (call sheet t)) (take_rest (sheet ∷ rest) 1)
+use Rattle.frame.specs.Frames.{frame_limit}
+use Rattle.frame.specs.Reading.{call_told, bytes_told, frame_told}
 
 pub within_told : (s : List ℕ) → length s ≤ frame_limit → frame_told s ≡ bytes_told s
 within_told s h = cond-true (leb (length s) frame_limit) (bytes_told s) (Err (Malformed frame_limit)) (le-leb _ _ h)

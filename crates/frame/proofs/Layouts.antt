@@ -1,11 +1,11 @@
 -- The layout of a setup: its parts put together and taken apart, and where bytes are missing.
 use Rattle.std.proofs.Common.{◌≡◌, ℕ, ◌-◌, ◌*◌, ◌/◌, ◌<◌, Bool, true, false, cond, leb, List, [], ◌∷◌, ◌++◌, length, get_or, take, drop, replicate, Some, None, Option, sym, refl, ap, ◌∙◌, subst, mul_comm, mul-div_cancel, arith}
 use Rattle.std.proofs.lemmas.List.{append_assoc, append-nil, take_at, drop_at, take-append-drop, length-append, length-take-le, length-replicate}
+use Rattle.std.proofs.lemmas.Option.{none-some, same_Some}
 use Rattle.std.proofs.lemmas.Bool.{le-leb, leb-true, leb-false}
 use Rattle.frame.specs.Frames.{FrameView, counted, setup_bytes, bytes_of, Whole, LaidOut}
 use Rattle.frame.specs.Frames.FrameView.{setup, open_sheet, add, withdraw, release, reopen, print}
 use Rattle.frame.specs.Reading.{part_told, Layout, with_events, with_names, with_pairs, layout_told}
-use Rattle.frame.proofs.Parts.{held, never}
 
 -- parts
 
@@ -17,14 +17,14 @@ part_built size items rest exact =
     rw (fits, front, back) refl
 
 pub part_sound : (size : ℕ) → 0 < size → (s items rest : List ℕ) → part_told size s ≡ Some (items, rest) → (s ≡ counted size items ++ rest) × Whole size items
-part_sound size pos [] items rest e = never e
+part_sound size pos [] items rest e = absurd (none-some _ e)
 part_sound size pos (count ∷ s) items rest e = cases (leb (count * size) (length s)) refl e
   where
     cases : (t : Bool) → leb (count * size) (length s) ≡ t → cond {A = Option (List ℕ × List ℕ)} t (Some (take (count * size) s, drop (count * size) s)) None ≡ Some (items, rest) → (count ∷ s ≡ counted size items ++ rest) × Whole size items
-    cases false is h = never h
+    cases false is h = absurd (none-some _ h)
     cases true is h =
-        let front : take (count * size) s ≡ items = ap (λ (p : List ℕ × List ℕ). p.0) (held h) in
-        let back : drop (count * size) s ≡ rest = ap (λ (p : List ℕ × List ℕ). p.1) (held h) in
+        let front : take (count * size) s ≡ items = ap (λ (p : List ℕ × List ℕ). p.0) (same_Some _ _ h) in
+        let back : drop (count * size) s ≡ rest = ap (λ (p : List ℕ × List ℕ). p.1) (same_Some _ _ h) in
         let len : length items ≡ count * size = ap length (sym front) ∙ length-take-le (count * size) s (leb-true _ _ is) in
         let n : length items / size ≡ count = ap (λ k. k / size) len ∙ mul-div_cancel count pos in
         let whole : s ≡ items ++ rest = sym (take-append-drop (count * size) s) ∙ (ap (λ t. t ++ drop (count * size) s) front ∙ ap (λ t. items ++ t) back) in
@@ -35,7 +35,7 @@ part_missing size pos [] e = ([], 0 / size ∷ [], (0, omega arith), refl)
 part_missing size pos (count ∷ s) e = cases (leb (count * size) (length s)) refl e
   where
     cases : (t : Bool) → leb (count * size) (length s) ≡ t → cond {A = Option (List ℕ × List ℕ)} t (Some (take (count * size) s, drop (count * size) s)) None ≡ None → (items : List ℕ) × (more : List ℕ) × Whole size items × (counted size items ≡ (count ∷ s) ++ more)
-    cases true is h = never (sym h)
+    cases true is h = absurd (none-some _ (sym h))
     cases false is h =
         let more : List ℕ = replicate (count * size - length s) 0 in
         let len : length (s ++ more) ≡ count * size = omega (arith, length-append s more, length-replicate {A = ℕ} (count * size - length s) 0, leb-false _ _ is) in
@@ -116,10 +116,10 @@ has_layout (print sheet) s l e = absurd (omega (arith, ap (λ t. get_or t 0 0) e
 pub no_layout : (f : FrameView) (s : List ℕ) → LaidOut f → bytes_of f ≡ 0xA0 ∷ 0x02 ∷ s → layout_told s ≡ None → ⊥
 no_layout f s l e none =
     let (found, is, empty) = has_layout f s l e in
-    never (sym none ∙ is)
+    absurd (none-some _ (sym none ∙ is))
 
 -- no frame goes on behind the parts that its counts ask for
 pub ends : (ps ns es z : List ℕ) → LaidOut (setup ps ns es) → (f : FrameView) → LaidOut f → bytes_of f ≡ 0xA0 ∷ 0x02 ∷ (setup_bytes ps ns es ++ z) → z ≡ []
 ends ps ns es z l f l' e =
     let (found, is, empty) = has_layout f (setup_bytes ps ns es ++ z) l' e in
-    ap (λ (p : Layout). p.behind) (held (sym (layout_built ps ns es z l) ∙ is)) ∙ empty
+    ap (λ (p : Layout). p.behind) (same_Some _ _ (sym (layout_built ps ns es z l) ∙ is)) ∙ empty

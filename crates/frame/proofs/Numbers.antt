@@ -1,37 +1,51 @@
--- Big-endian numbers, byte by byte.
-use Rattle.std.proofs.Common.{◌≡◌, ℕ, ◌+◌, ◌-◌, ◌*◌, ◌^◌, ◌<◌, ◌≤◌, true, leb, List, length, get_or, take, drop, Some, refl, ap, ◌∙◌, add-one, arith}
-use native.Mathlib.Nat.{pow-succ', pow-le-pow_right}
-use Rattle.std.proofs.lemmas.List.{at_drop_more, at_drop_all}
-use Rattle.std.proofs.lemmas.Bool.{le-leb}
-use Rattle.nets.specs.declared.event.Event.{Event}
-use Rattle.frame.specs.Events.{spelled_on, big_endian, event_told}
+-- An event of seventeen bytes, taken off the front of others.
+use Rattle.std.proofs.Common.{◌≡◌, ℕ, ◌+◌, ◌-◌, ◌*◌, ◌<◌, ◌≤◌, true, cond, leb, List, [], ◌∷◌, ◌++◌, length, take, drop, Some, None, sym, refl, ap, ◌∙◌, ⊎_elim, arith, w64}
+use Rattle.std.specs.Int.{from_be_bytes}
+use Rattle.std.proofs.lemmas.List.{append_assoc, length-append, length-drop, length-take-le, take_at, drop_at, take_all, take-append-drop}
+use Rattle.std.proofs.lemmas.Bool.{le-leb, lt-leb, cases_lt, cond-true}
+use Rattle.frame.specs.Events.{big_endian, event_of, event_told, NextEvent}
 
-pub one_more_fits : (i v b : ℕ) → i < 8 → v < 256 ^ i → b < 256 → 256 * v + b < 18446744073709551616
-one_more_fits i v b h small byte =
-    let le : i ≤ 7 = omega arith in
-    let room : 256 ^ i ≤ 256 ^ 7 = pow-le-pow_right (omega arith) le in
-    omega arith
+-- eight bytes spell what they are worth
+spelled : (bs : List ℕ) → length bs ≡ 8 → from_be_bytes w64 bs ≡ big_endian bs
+spelled [] long = absurd (omega arith)
+spelled (a ∷ []) long = absurd (omega arith)
+spelled (a ∷ b ∷ []) long = absurd (omega arith)
+spelled (a ∷ b ∷ c ∷ []) long = absurd (omega arith)
+spelled (a ∷ b ∷ c ∷ d ∷ []) long = absurd (omega arith)
+spelled (a ∷ b ∷ c ∷ d ∷ e ∷ []) long = absurd (omega arith)
+spelled (a ∷ b ∷ c ∷ d ∷ e ∷ f ∷ []) long = absurd (omega arith)
+spelled (a ∷ b ∷ c ∷ d ∷ e ∷ f ∷ g ∷ []) long = absurd (omega arith)
+spelled (a ∷ b ∷ c ∷ d ∷ e ∷ f ∷ g ∷ h ∷ []) long = omega arith
+spelled (a ∷ b ∷ c ∷ d ∷ e ∷ f ∷ g ∷ h ∷ i ∷ s) long = absurd (omega arith)
 
-pub one_more_below : (i v b : ℕ) → v < 256 ^ i → b < 256 → 256 * v + b < 256 ^ (i + 1)
-one_more_below i v b small byte =
-    let p : 256 ^ (i + 1) ≡ 256 * 256 ^ i = ap (λ k. 256 ^ k) (add-one i) ∙ pow-succ' 256 i in
-    omega arith
+-- an action and two sets, before other bytes
+event_first : (action : ℕ) (b a r : List ℕ) → length b ≡ 8 → length a ≡ 8 → event_told (action ∷ (b ++ (a ++ r))) 0 ≡ Some (record { action = action; before = from_be_bytes w64 b; after = from_be_bytes w64 a })
+event_first action b a r long_b long_a =
+    let both : length (b ++ a) ≡ 16 = omega (arith, length-append b a) in
+    let front : take 16 (b ++ (a ++ r)) ≡ b ++ a = ap (take 16) (sym (append_assoc b a r)) ∙ take_at (b ++ a) r 16 both in
+    let fits : leb 17 (length (action ∷ (b ++ (a ++ r)))) ≡ true = le-leb _ _ (omega (arith, length-append b (a ++ r), length-append a r)) in
+    let second : take 8 (drop 8 (b ++ a)) ≡ a = ap (take 8) (drop_at b a 8 long_b) ∙ take_all 8 a (omega arith) in
+    cond-true (leb 17 (length (action ∷ (b ++ (a ++ r))))) _ _ fits ∙ rw (front, take_at b a 8 long_b, second, spelled b long_b, spelled a long_a) refl
 
-pub one_more_spelled : (bs : List ℕ) (i v : ℕ) → i < length bs → spelled_on v (drop i bs) ≡ spelled_on (256 * v + get_or bs i 0) (drop (i + 1) bs)
-one_more_spelled bs i v h = at_drop_more (spelled_on v) bs i 0 h
+pub event_taken : (bytes behind b left a rest : List ℕ) (action before after : ℕ) → bytes ≡ action ∷ behind → b ≡ take 8 behind → left ≡ drop 8 behind → length left + 8 ≡ length behind → a ≡ take 8 left → rest ≡ drop 8 left → length rest + 8 ≡ length left
+    → before ≡ from_be_bytes w64 b → after ≡ from_be_bytes w64 a → NextEvent bytes (Some (record { action = action; before = before; after = after })) rest
+event_taken bytes behind b left a rest action before after whole is_b is_left long is_a is_rest short told_b told_a =
+    let long_b : length b ≡ 8 = ap length is_b ∙ length-take-le 8 behind (omega arith) in
+    let long_a : length a ≡ 8 = ap length is_a ∙ length-take-le 8 left (omega arith) in
+    let later : a ++ rest ≡ left = rw (is_a, is_rest) (take-append-drop 8 left) in
+    let all : b ++ (a ++ rest) ≡ behind = rw (later, is_b, is_left) (take-append-drop 8 behind) in
+    let same : bytes ≡ action ∷ (b ++ (a ++ rest)) = whole ∙ ap (λ s. action ∷ s) (sym all) in
+    let both : length (b ++ a) ≡ 16 = omega (arith, length-append b a) in
+    let told = ap (λ s. event_told s 0) same ∙ event_first action b a rest long_b long_a in
+    (told ∙ rw (told_b, told_a) refl, sym (ap (drop 17) same ∙ ap (drop 16) (sym (append_assoc b a rest)) ∙ drop_at (b ++ a) rest 16 both))
 
-pub all_spelled : (bs : List ℕ) (i v : ℕ) → length bs ≤ i → spelled_on v (drop i bs) ≡ v
-all_spelled bs i v h = at_drop_all (spelled_on v) bs i h
-
-abbrev the_event : ℕ → ℕ → ℕ → Event
-the_event action before after = record { action = action; before = before; after = after }
-
--- an event that was decoded, where its index was the number k
-pub event_decoded : (events : List ℕ) (i k before after : ℕ) → k ≡ i → 17 * k + 17 ≤ length events
-    → before ≡ big_endian (take 8 (drop 1 (take (17 * k + 17 - 17 * k) (drop (17 * k) events))))
-    → after ≡ big_endian (take 8 (drop 9 (take (17 * k + 17 - 17 * k) (drop (17 * k) events))))
-    → Some (the_event (get_or (take (17 * k + 17 - 17 * k) (drop (17 * k) events)) 0 0) before after) ≡ event_told events i
-event_decoded events i k before after is room b a =
-    let size : 17 * k + 17 - 17 * k ≡ 17 = omega arith in
-    let fits : leb (17 * k + 17) (length events) ≡ true = le-leb _ _ room in
-    rw (b, a, size, ← is, fits) refl
+-- the first event behind others is the next
+pub event_behind : (bytes : List ℕ) (i : ℕ) → event_told (drop (17 * i) bytes) 0 ≡ event_told bytes i
+event_behind bytes i =
+    let rest : length (drop (17 * i) bytes) ≡ length bytes - 17 * i = length-drop (17 * i) bytes in
+    let there : leb 17 (length (drop (17 * i) bytes)) ≡ leb (17 * i + 17) (length bytes) =
+    ⊎_elim
+    (λ (short : length bytes < 17 * i + 17). lt-leb _ _ (omega arith) ∙ sym (lt-leb _ _ short))
+    (λ (enough : 17 * i + 17 ≤ length bytes). le-leb _ _ (omega arith) ∙ sym (le-leb _ _ enough))
+    (cases_lt (length bytes) (17 * i + 17)) in
+    ap (λ b. cond b (Some (event_of (take 17 (drop (17 * i) bytes)))) None) there

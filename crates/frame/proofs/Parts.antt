@@ -1,52 +1,29 @@
--- The parts of a setup: splitting them off, and putting them together.
-use Rattle.std.proofs.Common.{◌≡◌, ℕ, ◌+◌, ◌-◌, ◌*◌, ◌≤◌, Bool, true, false, cond, leb, List, [], ◌∷◌, length, get_or, take, drop, Some, None, Option, refl, ap, arith}
-use Rattle.std.proofs.lemmas.List.{take_rest, length-drop}
-use Rattle.std.proofs.lemmas.Bool.{le-leb, cond-true}
-use Rattle.frame.specs.Reading.{part_told, Layout, with_events, with_names, with_pairs, layout_told, parts_told, setup_told}
-
--- the items and the bytes behind them, as slices of the bytes behind the count
-pub split_told : (bs rest : List ℕ) (size len : ℕ) → 1 ≤ length bs → rest ≡ drop 1 bs → len ≡ get_or bs 0 0 * size → len ≤ length rest
-    → Some (take (len - 0) rest, take (length rest - len) (drop len rest)) ≡ part_told size bs
-split_told [] rest size len h e l room = absurd (omega arith)
-split_told (count ∷ s) rest size len h e l room =
-    let same : len - 0 ≡ count * size = omega arith in
-    let back : take (length rest - len) (drop len rest) ≡ drop len rest = take_rest rest len in
-    let fits : leb (count * size) (length s) ≡ true = le-leb _ _ (omega (arith, ap length e)) in
-    let told : part_told size (count ∷ s) ≡ Some (take (count * size) s, drop (count * size) s) = cond-true (leb (count * size) (length s)) (Some (take (count * size) s, drop (count * size) s)) None fits in
-    rw (told, same, back, e, l) refl
-
--- what an option holds
-pub held : {A : Type 0} {x y : A} → Some x ≡ Some y → x ≡ y
-held e = cc
-
-pub never : {A B : Type 0} {x : A} → None ≡ Some x → B
-never e = let z : ◌≡◌ {A = ℕ} 0 1 = cc in absurd (omega arith)
+-- The parts of a setup: what stands behind them is no longer than the whole.
+use Rattle.std.proofs.Common.{◌≡◌, ℕ, ◌*◌, ◌≤◌, Bool, true, false, cond, leb, List, [], ◌∷◌, length, take, drop, Some, None, Option, refl, ap, arith}
+use Rattle.std.proofs.lemmas.List.{length-drop}
+use Rattle.std.proofs.lemmas.Option.{none-some, same_Some}
+use Rattle.frame.specs.Reading.{part_told, Layout, with_events, with_names, with_pairs, layout_told}
 
 -- what stands behind the parts is no longer than the whole
 pub part_shorter : (size : ℕ) (s items rest : List ℕ) → part_told size s ≡ Some (items, rest) → length rest ≤ length s
-part_shorter size [] items rest e = never e
+part_shorter size [] items rest e = absurd (none-some _ e)
 part_shorter size (count ∷ s) items rest e = cases (leb (count * size) (length s)) e
   where
     cases : (t : Bool) → cond {A = Option (List ℕ × List ℕ)} t (Some (take (count * size) s, drop (count * size) s)) None ≡ Some (items, rest) → length rest ≤ length (count ∷ s)
-    cases true h = let same : drop (count * size) s ≡ rest = ap (λ (p : List ℕ × List ℕ). p.1) (held h) in omega (arith, length-drop (count * size) s, ap length same)
-    cases false h = never h
+    cases true h = let same : drop (count * size) s ≡ rest = ap (λ (p : List ℕ × List ℕ). p.1) (same_Some _ _ h) in omega (arith, length-drop (count * size) s, ap length same)
+    cases false h = absurd (none-some _ h)
 
 pub layout_shorter : (s : List ℕ) (l : Layout) → layout_told s ≡ Some l → length l.behind ≤ length s
 layout_shorter s l e = pairs (part_told 2 s) refl e
   where
     events : (a b : List ℕ) (t : List ℕ) (o : Option (List ℕ × List ℕ)) → part_told 17 t ≡ o → with_events a b o ≡ Some l → length l.behind ≤ length t
-    events a b t None is h = never h
-    events a b t (Some (items, rest)) is h = let same : rest ≡ l.behind = ap (λ (p : Layout). p.behind) (held h) in omega (arith, part_shorter 17 t items rest is, ap length same)
+    events a b t None is h = absurd (none-some _ h)
+    events a b t (Some (items, rest)) is h = let same : rest ≡ l.behind = ap (λ (p : Layout). p.behind) (same_Some _ _ h) in omega (arith, part_shorter 17 t items rest is, ap length same)
 
     names : (a : List ℕ) (t : List ℕ) (o : Option (List ℕ × List ℕ)) → part_told 1 t ≡ o → with_names a o ≡ Some l → length l.behind ≤ length t
-    names a t None is h = never h
+    names a t None is h = absurd (none-some _ h)
     names a t (Some (items, rest)) is h = omega (arith, part_shorter 1 t items rest is, events a items rest (part_told 17 rest) refl h)
 
     pairs : (o : Option (List ℕ × List ℕ)) → part_told 2 s ≡ o → with_pairs o ≡ Some l → length l.behind ≤ length s
-    pairs None is h = never h
+    pairs None is h = absurd (none-some _ h)
     pairs (Some (items, rest)) is h = omega (arith, part_shorter 2 s items rest is, names items rest (part_told 1 rest) refl h)
-
--- a setup of the right kind is what its parts are
-pub kind_told : (fields rest : List ℕ) → 1 ≤ length fields → get_or fields 0 0 ≡ 2 → rest ≡ drop 1 fields → setup_told fields ≡ parts_told (length rest + 2) (layout_told rest)
-kind_told [] rest h k e = absurd (omega arith)
-kind_told (kind ∷ s) rest h k e = rw (k, e) refl

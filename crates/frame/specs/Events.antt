@@ -1,5 +1,5 @@
 -- The events of a setup, as numbers. Assumes nothing.
-use Rattle.std.specs.Prelude.{ℕ, ◌+◌, ◌*◌, cond, List, [], ◌∷◌, length, take, drop, Some, None, Option, nat_le, slice_index}
+use Rattle.std.specs.Prelude.{◌≡◌, ℕ, ◌+◌, ◌*◌, cond, List, [], ◌∷◌, length, take, drop, Some, None, Option, nat_le, slice_index}
 use Rattle.nets.specs.declared.event.Event.{Event}
 
 -- the number that bytes spell behind a number, and on their own: the greatest place comes first
@@ -18,6 +18,11 @@ event_of bs = record { action = slice_index bs 0; before = big_endian (take 8 (d
 abbrev pub event_told : List ℕ → ℕ → Option Event
 event_told events i = cond (nat_le (17 * i + 17) (length events)) (Some (event_of (take 17 (drop (17 * i) events)))) None
 
--- the place of its first byte in the frame of a setup with no pairs and no names
+-- The first of events that stand one behind the other, and what stands behind it; or none, and all bytes are left.
+abbrev pub NextEvent : List ℕ → Option Event → List ℕ → Type 0
+NextEvent events None left = (event_told events 0 ≡ None) × (left ≡ events)
+NextEvent events (Some e) left = (event_told events 0 ≡ Some e) × (left ≡ drop 17 events)
+
+-- the place of an event's first byte in the frame of a setup with no pairs and no names
 abbrev pub event_place : ℕ → ℕ
 event_place i = 5 + 17 * i

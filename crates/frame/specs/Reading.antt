@@ -1,10 +1,9 @@
 -- What reading a frame answers, step by step. Assumes nothing.
 use Rattle.std.specs.Prelude.{ℕ, ◌+◌, ◌-◌, ◌*◌, cond, List, [], ◌∷◌, length, take, drop, Some, None, Ok, Err, Option, Result, ◌==◌, nat_le}
+use Rattle.std.specs.Borrow.{Bor}
 use Rattle.frame.specs.declared.fault.FrameFault.{FrameFault}
 use Rattle.frame.specs.declared.fault.FrameFault.TheVariants.{Malformed, BadSetup}
 use Rattle.frame.specs.declared.setup.Setup.{Setup}
-use Rattle.frame.specs.declared.setup.Part.{Part}
-use Rattle.frame.specs.declared.setup.Parts.{Parts}
 use Rattle.frame.specs.declared.frame.Frame.{Frame}
 use Rattle.frame.specs.declared.frame.Frame.TheVariants as variant
 use Rattle.frame.specs.Frames.{FrameView, frame_limit, event_limit}
@@ -32,9 +31,9 @@ abbrev pub part_told : ℕ → List ℕ → Option (List ℕ × List ℕ)
 part_told size [] = None
 part_told size (count ∷ s) = cond (nat_le (count * size) (length s)) (Some (take (count * size) s, drop (count * size) s)) None
 
-abbrev pub part_view : Option Part → Option (List ℕ × List ℕ)
+abbrev pub part_view : Option (Bor (List ℕ) × Bor (List ℕ)) → Option (List ℕ × List ℕ)
 part_view None = None
-part_view (Some p) = Some (p.items.now, p.rest.now)
+part_view (Some (items, rest)) = Some (items.now, rest.now)
 
 -- the parts of a setup, and the bytes behind them
 pub record Layout : Type 0 where
@@ -58,9 +57,9 @@ with_pairs (Some (pairs, s)) = with_names pairs (part_told 1 s)
 abbrev pub layout_told : List ℕ → Option Layout
 layout_told s = with_pairs (part_told 2 s)
 
-abbrev pub layout_view : Option Parts → Option Layout
+abbrev pub layout_view : Option (Setup × Bor (List ℕ)) → Option Layout
 layout_view None = None
-layout_view (Some p) = Some (record { pairs = p.setup.pairs.now; names = p.setup.names.now; events = p.setup.events.now; behind = p.behind.now })
+layout_view (Some (s, behind)) = Some (record { pairs = s.pairs.now; names = s.names.now; events = s.events.now; behind = behind.now })
 
 -- the rules of a setup: no pairs, no names, at most 48 events; else the place of the count
 abbrev pub rules_told : List ℕ → List ℕ → List ℕ → Result FrameView FrameFault

@@ -1,27 +1,23 @@
 // The events of a setup, decoded.
-ghost use Rattle.std.specs.Prelude.{◌≡◌, ◌≤◌, length};
-ghost use Rattle.frame.specs.Events.{big_endian, event_told, event_place};
+ghost use Rattle.std.specs.Prelude.{◌≡◌, ◌/◌, length};
+ghost use Rattle.std.specs.Iterator.{at_most};
+ghost use Rattle.frame.specs.Events.{NextEvent, event_place};
 
-use crate::setup::{EVENT_SIZE, Setup};
+use crate::setup::Setup;
 use nets::event::Event;
 
-impl Setup<'_> {
-    // The event at an index; none past the last.
-    pub fn event(&self, i: u8) -> Option<Event>
-        ensures { result ≡ event_told self.now.events.now i }
+// Events of seventeen bytes, one behind the other: an action, and the sets before and after it.
+#[derive(Drop)]
+pub struct Events<'a> {
+    pub rest: &'a [u8],
+}
+
+impl<'a> Setup<'a> {
+    // The events, from the first on.
+    pub fn events(&self) -> Events<'a>
+        ensures { result.rest.now ≡ self.now.events.now }
     {
-        let start = EVENT_SIZE * usize::from(i);
-        if self.events.len() < start + EVENT_SIZE {
-            return None;
-        }
-        let event = &self.events[start..start + EVENT_SIZE];
-        let before = big_endian(&event[1..9]);
-        let after = big_endian(&event[9..17]);
-        Some(Event {
-            action: event[0],
-            before,
-            after,
-        })
+        Events { rest: self.events }
     }
 
     // The place in the frame of an event's first byte, in a setup that was accepted.
@@ -32,14 +28,22 @@ impl Setup<'_> {
     }
 }
 
-// The number that at most eight bytes spell, the greatest place first.
-fn big_endian(bytes: &[u8]) -> u64
-    requires { length bytes.now ≤ 8 }
-    ensures { result ≡ big_endian bytes.now }
-{
-    let mut value: u64 = 0;
-    for byte in bytes {
-        value = 256 * value + u64::from(*byte);
+impl Iterator for Events<'_> {
+    type Item = Event;
+
+    ghost next_gives = { λ s r t. NextEvent s.rest.now r t.rest.now };
+
+    ghost remaining = { λ s. at_most (length s.rest.now / 17) };
+
+    fn next(&mut self) -> Option<Event> {
+        let (action, rest) = self.rest.split_first()?;
+        let (before, rest) = rest.split_first_chunk()?;
+        let (after, rest) = rest.split_first_chunk()?;
+        self.rest = rest;
+        Some(Event {
+            action: *action,
+            before: u64::from_be_bytes(*before),
+            after: u64::from_be_bytes(*after),
+        })
     }
-    value
 }

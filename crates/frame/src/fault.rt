@@ -13,22 +13,18 @@ pub enum FrameFault {
     BadSetup(u16),
 }
 
-impl FrameFault {
-    // How the refusal is told.
-    pub fn refusal(self) -> Refusal
-        ensures { result ≡ frame_refusal self }
-    {
-        match self {
-            FrameFault::Malformed(place) => Refusal {
-                number: 1,
-                layer: 1,
-                place,
-            },
-            FrameFault::BadSetup(place) => Refusal {
-                number: 2,
-                layer: 1,
-                place,
-            },
+impl From<FrameFault> for Refusal {
+    ghost from_gives = { λ f r. r ≡ frame_refusal f };
+
+    fn from(fault: FrameFault) -> Refusal {
+        let (number, place) = match fault {
+            FrameFault::Malformed(place) => (1, place),
+            FrameFault::BadSetup(place) => (2, place),
+        };
+        Refusal {
+            number,
+            layer: 1,
+            place,
         }
     }
 }

@@ -30,7 +30,7 @@ impl Frame<'_> {
         ensures setups { PlacesBadSetups }
     {
         if frame.len() > FRAME_LIMIT {
-            return Err(FrameFault::Malformed(1024));
+            return Err(FrameFault::Malformed(FRAME_LIMIT as u16));
         }
         let [call, rest @ ..] = frame else {
             return Err(FrameFault::Malformed(0));
@@ -44,36 +44,37 @@ fn read_call(call: u8, rest: &[u8]) -> Result<Frame<'_>, FrameFault>
     requires { length rest.now < 1024 }
     ensures { viewed frame_view result ≡ call_told call rest.now }
 {
-    match call {
-        0xA0 => Ok(Frame::Setup(Setup::read(rest)?)),
-        0xB0 => match rest {
-            [sheet, state @ ..] => Ok(Frame::Open {
+    let frame = match call {
+        0xA0 => Frame::Setup(Setup::read(rest)?),
+        0xB0 => {
+            let (sheet, state) = rest.split_first().ok_or(FrameFault::Malformed(1))?;
+            Frame::Open {
                 sheet: *sheet,
                 state,
-            }),
-            [] => Err(FrameFault::Malformed(1)),
-        },
-        0xB1 => match rest {
-            [sheet, step @ ..] => Ok(Frame::Add {
+            }
+        }
+        0xB1 => {
+            let (sheet, step) = rest.split_first().ok_or(FrameFault::Malformed(1))?;
+            Frame::Add {
                 sheet: *sheet,
                 step,
-            }),
-            [] => Err(FrameFault::Malformed(1)),
+            }
+        }
+        0xB3 => Frame::Withdraw {
+            sheet: alone(rest)?,
         },
-        0xB3 => Ok(Frame::Withdraw {
+        0xB5 => Frame::Release {
             sheet: alone(rest)?,
-        }),
-        0xB5 => Ok(Frame::Release {
+        },
+        0xB6 => Frame::Reopen {
             sheet: alone(rest)?,
-        }),
-        0xB6 => Ok(Frame::Reopen {
+        },
+        0xB7 => Frame::Print {
             sheet: alone(rest)?,
-        }),
-        0xB7 => Ok(Frame::Print {
-            sheet: alone(rest)?,
-        }),
-        _ => Err(FrameFault::Malformed(0)),
-    }
+        },
+        _ => return Err(FrameFault::Malformed(0)),
+    };
+    Ok(frame)
 }
 
 // The sheet of a call that names nothing else.

@@ -13,20 +13,6 @@ pub struct Setup<'a> {
     pub events: &'a [u8],
 }
 
-// Counted items, and the bytes behind them.
-#[derive(Clone, Copy)]
-struct Part<'a> {
-    items: &'a [u8],
-    rest: &'a [u8],
-}
-
-// The parts of a setup, and the bytes behind them.
-#[derive(Clone, Copy)]
-struct Parts<'a> {
-    setup: Setup<'a>,
-    behind: &'a [u8],
-}
-
 // The bytes of an event.
 pub const EVENT_SIZE: usize = 17;
 
@@ -36,9 +22,7 @@ impl Setup<'_> {
         requires { length fields.now < 1024 }
         ensures { viewed setup_view result ≡ setup_told fields.now }
     {
-        let [kind, fields @ ..] = fields else {
-            return Err(FrameFault::Malformed(1));
-        };
+        let (kind, fields) = fields.split_first().ok_or(FrameFault::Malformed(1))?;
         if *kind != 2 {
             return Err(FrameFault::BadSetup(1));
         }
@@ -52,13 +36,11 @@ fn read_parts(fields: &[u8]) -> Result<Setup<'_>, FrameFault>
     ensures { viewed setup_view result ≡ parts_told (length fields.now + 2) (layout_told fields.now) }
 {
     let end = fields.len() + 2;
-    let Some(parts) = layout(fields) else {
-        return Err(FrameFault::Malformed(end as u16));
-    };
-    if !parts.behind.is_empty() {
-        return Err(FrameFault::Malformed((end - parts.behind.len()) as u16));
+    let (setup, behind) = layout(fields).ok_or(FrameFault::Malformed(end as u16))?;
+    if !behind.is_empty() {
+        return Err(FrameFault::Malformed((end - behind.len()) as u16));
     }
-    allowed(parts.setup)
+    allowed(setup)
 }
 
 // The setup, if it has no pairs, no names and not too many events.
@@ -77,37 +59,25 @@ fn allowed(setup: Setup<'_>) -> Result<Setup<'_>, FrameFault>
     Ok(setup)
 }
 
-// Takes the bytes behind the kind of a setup apart.
-fn layout(fields: &[u8]) -> Option<Parts<'_>>
+// Takes the bytes behind the kind of a setup apart: its parts, and the bytes behind them.
+fn layout(fields: &[u8]) -> Option<(Setup<'_>, &[u8])>
     ensures { layout_view result ≡ layout_told fields.now }
 {
-    let pairs = split_off(fields, 2)?;
-    let names = split_off(pairs.rest, 1)?;
-    let events = split_off(names.rest, 17)?;
+    let (pairs, rest) = split_off(fields, 2)?;
+    let (names, rest) = split_off(rest, 1)?;
+    let (events, behind) = split_off(rest, EVENT_SIZE as u8)?;
     let setup = Setup {
-        pairs: pairs.items,
-        names: names.items,
-        events: events.items,
+        pairs,
+        names,
+        events,
     };
-    Some(Parts {
-        setup,
-        behind: events.rest,
-    })
+    Some((setup, behind))
 }
 
-// Splits off a byte that counts items of `size` bytes, and the items.
-fn split_off(bytes: &[u8], size: u8) -> Option<Part<'_>>
+// Splits off a byte that counts items of `size` bytes, and the items; what stands behind them comes second.
+fn split_off(bytes: &[u8], size: u8) -> Option<(&[u8], &[u8])>
     ensures { part_view result ≡ part_told size bytes.now }
 {
-    let [count, rest @ ..] = bytes else {
-        return None;
-    };
-    let len = usize::from(*count) * usize::from(size);
-    if rest.len() < len {
-        return None;
-    }
-    Some(Part {
-        items: &rest[0..len],
-        rest: &rest[len..],
-    })
+    let (count, rest) = bytes.split_first()?;
+    rest.split_at_checked(usize::from(*count) * usize::from(size))
 }

@@ -8,6 +8,7 @@ mod tests {
     use history::call::{Answer, Call};
     use history::perform::perform;
     use toys::{commuting, sequential};
+    use steps::fault::Refusal;
 
     // An answer as it is compared: an end by its one byte, a refusal by its number and place.
     #[derive(Clone, Copy, PartialEq, Eq, Debug)]
@@ -33,7 +34,7 @@ mod tests {
     }
 
     fn refused(fault: BenchFault) -> Shown {
-        let refusal = fault.refusal();
+        let refusal = Refusal::from(fault);
         Shown::Refused(refusal.number, refusal.place)
     }
 

@@ -1,5 +1,6 @@
 -- A net built one event at a time. Assumes nothing.
-use Rattle.std.proofs.Common.{◌≡◌, ℕ, suc, ◌+◌, ◌-◌, ◌<◌, ◌≤◌, true, false, List, [], ◌∷◌, ◌++◌, is_err, Some, None, Ok, Err, Option, Result, sym, ap, ◌∙◌, arith}
+use Rattle.std.proofs.Common.{◌≡◌, ℕ, suc, ◌+◌, ◌-◌, ◌*◌, ◌<◌, ◌≤◌, true, false, List, [], ◌∷◌, ◌++◌, drop, is_err, Some, None, Ok, Err, Option, Result, sym, ap, ◌∙◌, ⊎_elim, arith}
+use Rattle.std.proofs.lemmas.Bool.{cases_lt}
 use Rattle.byte_strings.specs.Buffer.{Str}
 use Rattle.nets.specs.declared.event.Event.{Event}
 use Rattle.nets.specs.declared.event.EventFault.{EventFault}
@@ -7,6 +8,7 @@ use Rattle.nets.specs.Events.{add_fault, add_told, events_after}
 use Rattle.frame.specs.declared.fault.FrameFault.{FrameFault}
 use Rattle.frame.specs.declared.fault.FrameFault.TheVariants.{BadSetup}
 use Rattle.frame.specs.Events.{event_told, event_place}
+use Rattle.frame.proofs.Numbers.{event_behind}
 use Rattle.server.specs.Setup.{built}
 
 -- what comes of one event
@@ -20,19 +22,27 @@ one_more : (bytes : Str) (es : List Event) (i : ℕ) → i < 48 → built bytes 
 unfolding with_event built
 one_more bytes es i lt = let step : 48 - i ≡ suc (48 - (i + 1)) = omega arith in ap (built bytes es i) step
 
-module _ (bytes : Str) (es : List Event) (i : ℕ) (r : Result (List Event) FrameFault) (inv : built bytes es i (48 - i) ≡ r) where
-  pub built_none : i < 48 → None ≡ event_told bytes i → Ok es ≡ r
-  unfolding with_event
-  built_none lt e = sym (one_more bytes es i lt ∙ sym (ap (with_event bytes es i (48 - (i + 1))) e)) ∙ inv
+-- where es are the events before index i, and rest the bytes from it on
+module _ (bytes rest : Str) (es : List Event) (i : ℕ) (r : Result (List Event) FrameFault) (inv : built bytes es i (48 - i) ≡ r) (left : rest ≡ drop (17 * i) bytes) where
+  here : event_told rest 0 ≡ event_told bytes i
+  here = ap (λ s. event_told s 0) left ∙ event_behind bytes i
 
   pub built_all : 48 ≤ i → Ok es ≡ r
   unfolding built
   built_all done = let none : 48 - i ≡ 0 = omega arith in sym (ap (built bytes es i) none) ∙ inv
 
-  module _ (e : Event) (lt : i < 48) (at : Some e ≡ event_told bytes i) where
+  pub built_none : event_told rest 0 ≡ None → Ok es ≡ r
+  unfolding with_event
+  built_none e =
+      ⊎_elim
+      (λ (lt : i < 48). sym (one_more bytes es i lt ∙ ap (with_event bytes es i (48 - (i + 1))) (sym here ∙ e)) ∙ inv)
+      (λ (done : 48 ≤ i). built_all done)
+      (cases_lt i 48)
+
+  module _ (e : Event) (lt : i < 48) (at : event_told rest 0 ≡ Some e) where
     split : with_fault bytes es e i (48 - (i + 1)) (add_fault es e) ≡ r
     unfolding with_event with_fault
-    split = sym (one_more bytes es i lt ∙ sym (ap (with_event bytes es i (48 - (i + 1))) at)) ∙ inv
+    split = sym (one_more bytes es i lt ∙ ap (with_event bytes es i (48 - (i + 1))) (sym here ∙ at)) ∙ inv
 
     pub built_bad : (o : Result (Unit {0}) EventFault) → o ≡ add_told (add_fault es e) → is_err o ≡ true → Err (BadSetup (event_place i)) ≡ r
     unfolding with_fault

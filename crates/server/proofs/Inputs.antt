@@ -7,7 +7,7 @@ use Rattle.hexadecimal.specs.Digits.{byte_of}
 use Rattle.hexadecimal.specs.Hex.{before, sound, all_or_count, read_told}
 use Rattle.steps.proofs.Answered.{some_not_none}
 use Rattle.server.specs.Text.{text_limit}
-use Rattle.server.specs.Answer.{Model, Reply, read_reply, line_reply, reply_length, reply_buffer, reply_model}
+use Rattle.server.specs.Answer.{Model, read_reply, line_reply, reply_length, reply_buffer, reply_model}
 use Rattle.server.specs.Session.{SameAnswer, line_limit, taken_length, taken_buffer, taken_model, taken_line}
 
 -- the first k bytes are spelled by the first 2k characters
@@ -57,27 +57,27 @@ module _ (m : Model) (out l : Str) (b : ℕ) (other : b ≡ 10 → ⊥) where
       let no = ne_eqb b 10 other in
       (sym (cond-false (eqb b 10) _ _ no), sym (cond-false (eqb b 10) _ _ no), sym (cond-false (eqb b 10) _ _ no), sym (cond-false (eqb b 10) _ _ no))
 
--- a line end
-module _ (m : Model) (out l : Str) (b : ℕ) (end : b ≡ 10) where
-  pub ends_length : reply_length (line_reply m (take line_limit l)) (length out) ≡ taken_length m l b (length out)
-  ends_length = ap (λ r. reply_length r (length out)) (same_answer m l) ∙ sym (cond-true (eqb b 10) _ _ (eq-eqb b 10 end))
+-- a line end, where t is what was kept of the line
+module _ (m : Model) (out l : Str) (b : ℕ) (end : b ≡ 10) (t : Str) (is : t ≡ take line_limit l) where
+  pub ends_length : reply_length (line_reply m t) (length out) ≡ taken_length m l b (length out)
+  ends_length = ap (λ w. reply_length (line_reply m w) (length out)) is ∙ ap (λ r. reply_length r (length out)) (same_answer m l) ∙ sym (cond-true (eqb b 10) _ _ (eq-eqb b 10 end))
 
-  pub ends_buffer : reply_buffer (line_reply m (take line_limit l)) out ≡ taken_buffer m l b out
-  ends_buffer = ap (λ r. reply_buffer r out) (same_answer m l) ∙ sym (cond-true (eqb b 10) _ _ (eq-eqb b 10 end))
+  pub ends_buffer : reply_buffer (line_reply m t) out ≡ taken_buffer m l b out
+  ends_buffer = ap (λ w. reply_buffer (line_reply m w) out) is ∙ ap (λ r. reply_buffer r out) (same_answer m l) ∙ sym (cond-true (eqb b 10) _ _ (eq-eqb b 10 end))
 
-  pub ends_model : reply_model (line_reply m (take line_limit l)) (length out) m ≡ taken_model m l b (length out)
-  ends_model = ap (λ r. reply_model r (length out) m) (same_answer m l) ∙ sym (cond-true (eqb b 10) _ _ (eq-eqb b 10 end))
+  pub ends_model : reply_model (line_reply m t) (length out) m ≡ taken_model m l b (length out)
+  ends_model = ap (λ w. reply_model (line_reply m w) (length out) m) is ∙ ap (λ r. reply_model r (length out) m) (same_answer m l) ∙ sym (cond-true (eqb b 10) _ _ (eq-eqb b 10 end))
 
-  pub ends_line : (n : ℕ) (r : Reply) → Some n ≡ reply_length r (length out) → [] ≡ taken_line l b (length out)
-  ends_line n r e = go (leb text_limit (length out)) e ∙ sym (cond-true (eqb b 10) _ _ (eq-eqb b 10 end))
+  pub ends_line : (n : ℕ) → Some n ≡ reply_length (line_reply m t) (length out) → [] ≡ take line_limit (taken_line l b (length out))
+  ends_line n e = ap (take line_limit) (go (leb text_limit (length out)) e ∙ sym (cond-true (eqb b 10) _ _ (eq-eqb b 10 end)))
     where
-      go : (t : Bool) → Some n ≡ cond t (Some (length r.text)) None → [] ≡ cond t [] l
+      go : (d : Bool) → Some n ≡ cond d (Some (length (line_reply m t).text)) None → [] ≡ cond d [] l
       go true p = refl
       go false p = some_not_none n p
 
-  pub stays_line : (r : Reply) → None ≡ reply_length r (length out) → l ≡ taken_line l b (length out)
-  stays_line r e = go (leb text_limit (length out)) e ∙ sym (cond-true (eqb b 10) _ _ (eq-eqb b 10 end))
+  pub stays_line : None ≡ reply_length (line_reply m t) (length out) → take line_limit l ≡ take line_limit (taken_line l b (length out))
+  stays_line e = ap (take line_limit) (go (leb text_limit (length out)) e ∙ sym (cond-true (eqb b 10) _ _ (eq-eqb b 10 end)))
     where
-      go : (t : Bool) → None ≡ cond t (Some (length r.text)) None → l ≡ cond t [] l
-      go true p = some_not_none (length r.text) (sym p)
+      go : (d : Bool) → None ≡ cond d (Some (length (line_reply m t).text)) None → l ≡ cond d [] l
+      go true p = some_not_none (length (line_reply m t).text) (sym p)
       go false p = refl

@@ -1,14 +1,14 @@
 // A line of input to the whole text of its answer.
 ghost use Rattle.std.specs.Prelude.{◌≡◌, ◌≤◌, [], length, replicate, IfSome};
-ghost use Rattle.byte_strings.specs.Buffer.{over};
-ghost use Rattle.frame.specs.Reading.{frame_told};
 ghost use Rattle.bench.specs.Page.{blank_page};
-ghost use Rattle.server.specs.Text.{text_limit};
+ghost use Rattle.server.specs.Text.{Answers};
 ghost use Rattle.server.specs.Setup.{SetupsGiveNets};
-ghost use Rattle.server.specs.Answer.{model_of, bytes_reply, line_reply, reply_length, reply_buffer, reply_model};
+ghost use Rattle.server.specs.Answer.{model_of, line_reply, reply_length, reply_buffer, reply_model};
 
+use crate::fault::Fault;
 use crate::server::Server;
 use crate::text;
+use crate::text::TEXT_LIMIT;
 use bench::bench::Bench;
 use frame::fault::FrameFault;
 use frame::frame::{FRAME_LIMIT, Frame};
@@ -27,6 +27,9 @@ impl Server {
 
     // Answers a line: the text stands at the front of `out`, and its length is the answer.
     // None, and nothing is done, where `out` has no room for the longest text.
+    // It stays a call, so that the loop over the bytes of input is short.
+    #[inline(never)]
+    #[tactic(auto, using(crate::proofs::Setups::setups_give_nets))]
     pub fn answer(&mut self, line: &[u8], out: &mut [u8]) -> Option<usize>
         ensures answer { result ≡ reply_length (line_reply (model_of self.old) line.now) (length out.old) }
         ensures buffer { out.new ≡ reply_buffer (line_reply (model_of self.old) line.now) out.old }
@@ -34,27 +37,22 @@ impl Server {
         ensures bound { IfSome result (λ n. n ≤ 5222) }
         ensures setups { SetupsGiveNets }
     {
-        if out.len() < text::TEXT_LIMIT {
-            return None;
-        }
-        let mut frame = [0u8; FRAME_LIMIT];
-        match hexadecimal::read(line, &mut frame) {
-            Ok(n) => Some(self.serve(&frame[0..n], out)),
-            Err(place) => Some(text::refuse(FrameFault::Malformed(place as u16).refusal(), out)),
+        let out = out.first_chunk_mut::<TEXT_LIMIT>()?;
+        match self.reply(line, out) {
+            Ok(n) => Some(n),
+            Err(fault) => Some(text::refuse(fault, out)),
         }
     }
 
-    // Answers the bytes of a frame.
-    fn serve(&mut self, frame: &[u8], out: &mut [u8]) -> usize
-        requires { text_limit ≤ length out.old }
-        ensures answer { result ≡ length (bytes_reply (model_of self.old) (frame_told frame.now)).text }
-        ensures buffer { out.new ≡ over (bytes_reply (model_of self.old) (frame_told frame.now)).text out.old }
-        ensures model { model_of self.new ≡ (bytes_reply (model_of self.old) (frame_told frame.now)).model }
-        ensures bound { result ≤ 5222 }
+    // Reads a line and performs its call; a fault tells what is refused.
+    fn reply(&mut self, line: &[u8], out: &mut [u8; TEXT_LIMIT]) -> Result<usize, Fault>
+        ensures answer { Answers (line_reply (model_of self.old) line.now).text result out.old out.new }
+        ensures model { model_of self.new ≡ (line_reply (model_of self.old) line.now).model }
     {
-        match Frame::read(frame) {
-            Ok(frame) => self.call(frame, out),
-            Err(fault) => text::refuse(fault.refusal(), out),
+        let mut bytes = [0u8; FRAME_LIMIT];
+        match hexadecimal::read(line, &mut bytes) {
+            Ok(n) => self.call(Frame::read(&bytes[0..n])?, out),
+            Err(place) => Err(FrameFault::Malformed(place as u16).into()),
         }
     }
 }

@@ -4,6 +4,7 @@
 
 pub mod answer;
 mod calls;
+mod fault;
 pub mod server;
 pub mod session;
 mod setup;

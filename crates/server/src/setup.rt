@@ -5,17 +5,14 @@ ghost use Rattle.server.specs.Answer.{net_view};
 
 use frame::fault::FrameFault;
 use frame::setup::Setup;
-use nets::net::Net;
+use nets::net::{EVENT_LIMIT, Net};
 
 // Makes the net, or refuses the first event that breaks a rule.
 pub(crate) fn build(setup: &Setup<'_>) -> Result<Net, FrameFault>
     ensures { net_view result ≡ net_told setup.now.events.now }
 {
     let mut net = Net::new();
-    for i in 0..48u8 {
-        let Some(event) = setup.event(i) else {
-            return Ok(net);
-        };
+    for (i, event) in (0..EVENT_LIMIT as u8).zip(setup.events()) {
         if net.add(event).is_err() {
             return Err(FrameFault::BadSetup(Setup::event_place(i)));
         }

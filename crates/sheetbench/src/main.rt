@@ -38,6 +38,7 @@ fn main(rt: HostRuntime) -> io::Result<()> {
     let mut session = Session::new();
     let mut chunk = [0u8; CHUNK];
     let mut out = [0u8; CHUNK];
+    // No input comes near that many reads, and every loop has to end.
     for _ in 0..u64::MAX {
         let n = input.read(&mut chunk)?;
         if n == 0 {

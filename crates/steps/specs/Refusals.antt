@@ -1,4 +1,6 @@
 -- The number, the layer and the place by which each refusal of a step system is told. Assumes nothing.
+use Rattle.std.specs.Prelude.{◌/◌, ◌%◌, [], ◌∷◌}
+use Rattle.steps.specs.Meaning.{Str}
 use Rattle.steps.specs.declared.fault.Refusal.{Refusal}
 use Rattle.steps.specs.declared.fault.SystemFault.{SystemFault}
 use Rattle.steps.specs.declared.fault.SystemFault.TheVariants.{NoState, NoStep, Impossible, StateTooLong, StepTooLong}
@@ -15,3 +17,7 @@ system_refusal (StepTooLong needed) = record { number = 12; layer = 4; place = n
 abbrev pub mask_refusal : MaskFault → Refusal
 mask_refusal Masked = record { number = 7; layer = 3; place = 0 }
 mask_refusal (Inner f) = system_refusal f
+
+-- number, layer, and place in two bytes
+abbrev pub refusal_bytes : Refusal → Str
+refusal_bytes r = r.number ∷ r.layer ∷ r.place / 256 ∷ r.place % 256 ∷ []

@@ -1,7 +1,7 @@
 // Why a step system sends something back, and the number, layer and place that each case is told by.
 ghost use Rattle.std.specs.Prelude.{◌≡◌};
 ghost use Rattle.steps.specs.declared.fault.MaskFault.TheVariants.{Inner};
-ghost use Rattle.steps.specs.Refusals.{system_refusal, mask_refusal};
+ghost use Rattle.steps.specs.Refusals.{system_refusal, mask_refusal, refusal_bytes};
 
 // How a refusal is told: its number, the layer that refuses, and a place or a length.
 #[derive(Clone, Copy)]
@@ -33,51 +33,36 @@ pub enum MaskFault {
     Inner(SystemFault),
 }
 
-impl SystemFault {
-    pub fn refusal(self) -> Refusal
-        ensures { result ≡ system_refusal self }
-    {
-        match self {
-            SystemFault::NoState(place) => Refusal {
-                number: 4,
-                layer: 4,
-                place,
-            },
-            SystemFault::NoStep(place) => Refusal {
-                number: 5,
-                layer: 4,
-                place,
-            },
-            SystemFault::Impossible(place) => Refusal {
-                number: 6,
-                layer: 4,
-                place,
-            },
-            SystemFault::StateTooLong(place) => Refusal {
-                number: 8,
-                layer: 4,
-                place,
-            },
-            SystemFault::StepTooLong(place) => Refusal {
-                number: 12,
-                layer: 4,
-                place,
-            },
+impl From<SystemFault> for Refusal {
+    ghost from_gives = { λ f r. r ≡ system_refusal f };
+
+    fn from(fault: SystemFault) -> Refusal {
+        let (number, place) = match fault {
+            SystemFault::NoState(place) => (4, place),
+            SystemFault::NoStep(place) => (5, place),
+            SystemFault::Impossible(place) => (6, place),
+            SystemFault::StateTooLong(needed) => (8, needed),
+            SystemFault::StepTooLong(needed) => (12, needed),
+        };
+        Refusal {
+            number,
+            layer: 4,
+            place,
         }
     }
 }
 
-impl MaskFault {
-    pub fn refusal(self) -> Refusal
-        ensures { result ≡ mask_refusal self }
-    {
-        match self {
+impl From<MaskFault> for Refusal {
+    ghost from_gives = { λ f r. r ≡ mask_refusal f };
+
+    fn from(fault: MaskFault) -> Refusal {
+        match fault {
             MaskFault::Masked => Refusal {
                 number: 7,
                 layer: 3,
                 place: 0,
             },
-            MaskFault::Inner(fault) => fault.refusal(),
+            MaskFault::Inner(fault) => fault.into(),
         }
     }
 }
@@ -87,5 +72,15 @@ impl From<SystemFault> for MaskFault {
 
     fn from(refused: SystemFault) -> MaskFault {
         MaskFault::Inner(refused)
+    }
+}
+
+// The four bytes that tell a refusal.
+impl From<Refusal> for [u8; 4] {
+    ghost from_gives = { λ f r. r ≡ refusal_bytes f };
+
+    fn from(refusal: Refusal) -> [u8; 4] {
+        let [high, low] = refusal.place.to_be_bytes();
+        [refusal.number, refusal.layer, high, low]
     }
 }

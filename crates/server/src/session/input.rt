@@ -2,7 +2,6 @@
 ghost use Rattle.std.specs.Prelude.{◌≡◌, ◌≤◌, not, [], length, take, replicate, IfSome, ◌==◌};
 ghost use Rattle.byte_strings.specs.Buffer.{Str};
 ghost use Rattle.bench.specs.Page.{blank_page};
-ghost use Rattle.byte_strings.specs.Text.{text_of};
 ghost use Rattle.server.specs.Answer.{model_of};
 ghost use Rattle.server.specs.Session.{line_limit, taken_length, taken_buffer, taken_model, taken_line};
 
@@ -14,7 +13,7 @@ impl Session {
     // A new server, and an empty line.
     pub fn new() -> Session
         ensures model { model_of result.server ≡ record { events = []; pages = replicate 4 blank_page } }
-        ensures line { text_of result.line ≡ [] }
+        ensures line { result.line ≡ [] }
     {
         Session {
             server: Server::new(),
@@ -25,27 +24,25 @@ impl Session {
     // Takes a byte of input. A line end answers the line: the text stands at the front of `out`, and its length is the answer.
     // None, and nothing is done, where an answer is due and `out` has no room for the longest text.
     pub fn take(&mut self, byte: u8, out: &mut [u8]) -> Option<usize>
-        ensures answer { (l : Str) → text_of self.old.line ≡ take line_limit l → result ≡ taken_length (model_of self.old.server) l byte (length out.old) }
-        ensures buffer { (l : Str) → text_of self.old.line ≡ take line_limit l → out.new ≡ taken_buffer (model_of self.old.server) l byte out.old }
-        ensures model { (l : Str) → text_of self.old.line ≡ take line_limit l → model_of self.new.server ≡ taken_model (model_of self.old.server) l byte (length out.old) }
-        ensures line { (l : Str) → text_of self.old.line ≡ take line_limit l → text_of self.new.line ≡ take line_limit (taken_line l byte (length out.old)) }
+        ensures answer { (l : Str) → self.old.line ≡ take line_limit l → result ≡ taken_length (model_of self.old.server) l byte (length out.old) }
+        ensures buffer { (l : Str) → self.old.line ≡ take line_limit l → out.new ≡ taken_buffer (model_of self.old.server) l byte out.old }
+        ensures model { (l : Str) → self.old.line ≡ take line_limit l → model_of self.new.server ≡ taken_model (model_of self.old.server) l byte (length out.old) }
+        ensures line { (l : Str) → self.old.line ≡ take line_limit l → self.new.line ≡ take line_limit (taken_line l byte (length out.old)) }
         ensures bound { IfSome result (λ n. n ≤ 5222) }
     {
         if byte != b'\n' {
             self.line.push(byte);
             return Some(0);
         }
-        let Some(n) = self.server.answer(self.line.text(), out) else {
-            return None;
-        };
+        let n = self.server.answer(self.line.items(), out)?;
         self.line = Held::empty();
         Some(n)
     }
 
     // Whether a line was begun that has not ended.
     pub fn pending(&self) -> bool
-        ensures { result ≡ not (length (text_of self.now.line) == 0) }
+        ensures { result ≡ not (length self.now.line == 0) }
     {
-        !self.line.text().is_empty()
+        !self.line.items().is_empty()
     }
 }

@@ -1,23 +1,47 @@
-use Rattle.std.proofs.Common.{Err, sym, ap, ◌∙◌}
+use Rattle.std.proofs.Common.{◌≡◌, ◌+◌, ◌-◌, ◌*◌, ◌<◌, Err, sym, ap, ◌∙◌, arith, drop, inl, inr}
+use Rattle.std.proofs.lemmas.List.{drop-drop}
+use Rattle.std.specs.Iterator.Adapters.{zip_first, zip_second}
 use Rattle.frame.specs.declared.fault.FrameFault.TheVariants.{BadSetup}
+use Rattle.frame.specs.Events.{event_place}
 use Rattle.nets.specs.Contents.{events_of}
 use Rattle.server.specs.Setup.{built}
 use Rattle.server.proofs.Building.{built_none, built_all, built_bad, built_more}
 use Rattle.server.proofs.setup.build.Goals as goal
 
-pub loop-i-init : goal.loop-i-init
-loop-i-init c = ap (λ es. built c.args.setup.now.events.now es 0 48) c.new-net.ensures
-
-pub returns-in_default : goal.returns-in_default
-returns-in_default c = built_none c.args.setup.now.events.now (events_of c.loop-i.net) c.loop-i.i _ c.loop-i.invariant c.loop-i-test.true c.in_default.ensures
-
 pub returns-then-is_err : goal.returns-then-is_err
 returns-then-is_err c =
-    ap (λ n. Err (BadSetup n)) c.event_place.ensures
-    ∙ built_bad c.args.setup.now.events.now (events_of c.loop-i.net) c.loop-i.i _ c.loop-i.invariant c.in-Some.event c.loop-i-test.true c.in-Some.ensures c.add.result c.add.ensures.answer (sym c.if-is_err.ensures.value)
+    let inv = c.loop-i.invariant in
+    let step = c.in-Some.ensures.steps in
+    let i = (zip_first c.loop-i.i-iterator).start in
+    let lt : i < 48 = omega (arith, step.0.1.0, inv.end) in
+    ap (λ n. Err (BadSetup n)) (c.event_place.ensures ∙ ap event_place step.0.1.1)
+    ∙ built_bad c.args.setup.now.events.now (zip_second c.loop-i.i-iterator).rest.now (events_of c.loop-i.net) i _ inv.so_far inv.left c.in-Some.event lt step.1.0 c.add.result c.add.ensures.answer (sym c.if-is_err.ensures.value)
 
 pub loop-i-preserved : goal.loop-i-preserved
-loop-i-preserved c = built_more c.args.setup.now.events.now (events_of c.loop-i.net) c.loop-i.i _ c.loop-i.invariant c.in-Some.event c.loop-i-test.true c.in-Some.ensures c.add.result (events_of c.add.new.self) c.add.ensures.answer (sym c.if-is_err.ensures.value) c.add.ensures.events
+loop-i-preserved c =
+    let inv = c.loop-i.invariant in
+    let step = c.in-Some.ensures.steps in
+    let bytes = c.args.setup.now.events.now in
+    let i = (zip_first c.loop-i.i-iterator).start in
+    let lt : i < 48 = omega (arith, step.0.1.0, inv.end) in
+    let next : (zip_first c.next.new.self).start ≡ i + 1 = step.0.1.2 in
+    let on : 17 * i + 17 ≡ 17 * (zip_first c.next.new.self).start = omega arith in
+    let more = built_more bytes (zip_second c.loop-i.i-iterator).rest.now (events_of c.loop-i.net) i _ inv.so_far inv.left c.in-Some.event lt step.1.0 c.add.result (events_of c.add.new.self) c.add.ensures.answer (sym c.if-is_err.ensures.value) c.add.ensures.events in
+    record {
+      can = inv.can;
+      finite = inv.finite;
+      end = step.0.0 ∙ inv.end;
+      left = step.1.1 ∙ ap (drop 17) inv.left ∙ drop-drop 17 (17 * i) bytes ∙ ap (λ k. drop k bytes) on;
+      so_far = ap (λ k. built bytes (events_of c.add.new.self) k (48 - k)) next ∙ more;
+    }
 
 pub returns : goal.returns
-returns c = built_all c.args.setup.now.events.now (events_of c.loop-i.net) c.loop-i.i _ c.loop-i.invariant c.loop-i-test.false
+returns c =
+    let inv = c.loop-i.invariant in
+    let bytes = c.args.setup.now.events.now in
+    let rest = (zip_second c.loop-i.i-iterator).rest.now in
+    let i = (zip_first c.loop-i.i-iterator).start in
+    elim c.in-None.ensures.steps [
+      | inl (u, all) ↦ built_all bytes rest (events_of c.loop-i.net) i _ inv.so_far inv.left (omega (arith, all.1.0, inv.end))
+      | inr (u, none) ↦ built_none bytes rest (events_of c.loop-i.net) i _ inv.so_far inv.left none.0
+    ]
