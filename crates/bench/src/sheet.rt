@@ -27,6 +27,7 @@ pub struct Head {
 }
 
 // The start, and a row for each step; the rows past the length are left over.
+// A table beside a length and no list: the head is a record of its own, so that a look back can shorten it and leave the rows.
 #[derive(Clone, Copy)]
 pub struct Sheet {
     head: Head,

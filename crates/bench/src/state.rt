@@ -42,15 +42,9 @@ pub(crate) fn walk<S: StepSystem>(
 {
     let mut state = *start;
     for (i, step) in steps.iter().enumerate() {
-        match following(system, &state, step.items()) {
-            Ok(next) => state = next,
-            Err(fault) => {
-                return Err(Halt {
-                    number: i as u16 + 1,
-                    fault,
-                });
-            }
-        }
+        // It fits, so no `try_from`: there are at most 32 steps.
+        let number = i as u16 + 1;
+        state = following(system, &state, step.items()).map_err(|fault| Halt { number, fault })?;
     }
     Ok(state)
 }
@@ -60,6 +54,7 @@ pub(crate) fn answer(state: &Held<256>, out: &mut [u8]) -> Result<usize, MaskFau
     ensures answer { result ≡ count (state_fits state.now (length out.old)) }
     ensures buffer { out.new ≡ kept (state_fits state.now (length out.old)) out.old }
 {
+    // It fits, so no `try_from`: a held state has at most 256 bytes.
     let needed = state.items().len() as u16;
     state
         .copy_to(out)

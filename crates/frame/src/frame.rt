@@ -30,7 +30,7 @@ impl Frame<'_> {
         ensures setups { PlacesBadSetups }
     {
         if frame.len() > FRAME_LIMIT {
-            return Err(FrameFault::Malformed(FRAME_LIMIT as u16));
+            return Err(FrameFault::Malformed(1024));
         }
         let [call, rest @ ..] = frame else {
             return Err(FrameFault::Malformed(0));
@@ -44,6 +44,7 @@ fn read_call(call: u8, rest: &[u8]) -> Result<Frame<'_>, FrameFault>
     requires { length rest.now < 1024 }
     ensures { viewed frame_view result ≡ call_told call rest.now }
 {
+    // By the byte itself: here it becomes the enum of frames, and an enum of calls between would say each byte twice.
     let frame = match call {
         0xA0 => Frame::Setup(Setup::read(rest)?),
         0xB0 => {

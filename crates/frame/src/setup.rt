@@ -36,6 +36,7 @@ fn read_parts(fields: &[u8]) -> Result<Setup<'_>, FrameFault>
     ensures { viewed setup_view result ≡ parts_told (length fields.now + 2) (layout_told fields.now) }
 {
     let end = fields.len() + 2;
+    // The places fit, so no `try_from`: a frame has at most 1024 bytes.
     let (setup, behind) = layout(fields).ok_or(FrameFault::Malformed(end as u16))?;
     if !behind.is_empty() {
         return Err(FrameFault::Malformed((end - behind.len()) as u16));

@@ -20,6 +20,7 @@ pub(crate) fn turn<S: StepSystem>(
     ensures answer { answer_view result ≡ answer_told (S.transitions system.now) (S.independence system.now) (pages_of bench.old) (call_view call.now) }
     ensures pages { pages_of bench.new ≡ pages_then (S.transitions system.now) (S.independence system.now) (pages_of bench.old) (call_view call.now) }
 {
+    // A match and no table of functions: each call has data of its own, and the calls are these.
     match call {
         Call::Open { sheet, state } => {
             bench.open_sheet(system, *sheet, state)?;

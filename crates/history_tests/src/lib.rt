@@ -7,8 +7,8 @@ mod tests {
     use bench::fault::BenchFault;
     use history::call::{Answer, Call};
     use history::perform::perform;
-    use toys::{commuting, sequential};
     use steps::fault::Refusal;
+    use toys::{commuting, sequential};
 
     // An answer as it is compared: an end by its one byte, a refusal by its number and place.
     #[derive(Clone, Copy, PartialEq, Eq, Debug)]

@@ -6,6 +6,7 @@ use byte_strings::held::Held;
 use steps::system::StepSystem;
 
 // What is left of x after y; none where they are dependent.
+// That a step is one within the limit is required of all of this crate, in a clause: it is a fact of two values, the step and the system.
 pub(crate) fn residual<S: StepSystem>(system: &S, x: &Held<64>, y: &Held<64>) -> Option<Held<64>>
     requires first { ShortStep (S.transitions system.now) x.now }
     requires second { ShortStep (S.transitions system.now) y.now }

@@ -20,8 +20,7 @@ fn put_marking(marking: u64, out: &mut [u8]) -> Result<usize, MaskFault>
     ensures answer { result ≡ count (state_fits (bytes_of marking) (length out.old)) }
     ensures buffer { out.new ≡ kept (state_fits (bytes_of marking) (length out.old)) out.old }
 {
-    buffer::copy(&marking.to_be_bytes(), out)
-        .ok_or(MaskFault::Inner(SystemFault::StateTooLong(8)))
+    buffer::copy(&marking.to_be_bytes(), out).ok_or(MaskFault::Inner(SystemFault::StateTooLong(8)))
 }
 
 impl StepSystem for Net {

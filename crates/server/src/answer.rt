@@ -52,6 +52,7 @@ impl Server {
         let mut bytes = [0u8; FRAME_LIMIT];
         match hexadecimal::read(line, &mut bytes) {
             Ok(n) => self.call(Frame::read(&bytes[0..n])?, out),
+            // It fits, so no `try_from`: at most 1024 bytes are read.
             Err(place) => Err(FrameFault::Malformed(place as u16).into()),
         }
     }

@@ -22,6 +22,7 @@ impl Server {
     {
         // What an accepted call answers is the first n bytes, but for a printed text.
         let mut end = [0u8; 256];
+        // A match and no table of functions: each frame has data of its own, and the frames are these.
         let n = match frame {
             Frame::Setup(setup) => {
                 self.net = setup::build(&setup)?;

@@ -22,11 +22,7 @@ pub fn put_step(step: &[u8], out: &mut [u8]) -> Result<Option<usize>, MaskFault>
 }
 
 // Writes a step that is answered where a question has an answer, and nothing where it has none.
-pub fn put_step_if(
-    answered: bool,
-    step: &[u8],
-    out: &mut [u8],
-) -> Result<Option<usize>, MaskFault>
+pub fn put_step_if(answered: bool, step: &[u8], out: &mut [u8]) -> Result<Option<usize>, MaskFault>
     ensures answer { result ≡ count_some (step_fits (cond answered (Some step.now) None) (length out.old)) }
     ensures buffer { out.new ≡ kept_some (step_fits (cond answered (Some step.now) None) (length out.old)) out.old }
 {

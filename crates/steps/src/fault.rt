@@ -4,6 +4,7 @@ ghost use Rattle.steps.specs.declared.fault.MaskFault.TheVariants.{Inner};
 ghost use Rattle.steps.specs.Refusals.{system_refusal, mask_refusal, refusal_bytes};
 
 // How a refusal is told: its number, the layer that refuses, and a place or a length.
+// Numbers and no enums: up to here a refusal is one of the enums below, and these are the bytes that the format has for it.
 #[derive(Clone, Copy)]
 pub struct Refusal {
     pub number: u8,

@@ -47,18 +47,18 @@ impl Sheet {
         ensures few { IfOk result (λ added. length added ≤ other.now.head.len) }
         ensures room { IfOk result (λ added. self.now.head.len + length added ≤ 32) }
     {
+        // A match and no `map_err`: that the place fits is known of this answer, and not of any that a closure may be given.
         let added = match join(system, &self.steps(), &other.steps()) {
             Ok(added) => added,
             Err(place) => return Err(BenchFault::Conflict(place as u16)),
         };
         let len = self.head.len + added.items().len();
         if len > 32 {
+            // It fits, so no `try_from`: both lists have at most 32 steps.
             return Err(BenchFault::TooMany(len as u16));
         }
-        match walk(system, end, added.items()) {
-            Ok(_) => Ok(added),
-            Err(halt) => Err(BenchFault::System(halt.fault)),
-        }
+        walk(system, end, added.items()).map_err(|halt| halt.fault)?;
+        Ok(added)
     }
 
     // Puts steps behind the others.
@@ -101,6 +101,7 @@ impl Sheet {
         let len = self.head.len + added.items().len();
         let shared = other.head.len - added.items().len();
         self.append(&added);
+        // They fit, so no `try_from`: there is room for 32 steps.
         Ok((len as u8, shared as u8))
     }
 }

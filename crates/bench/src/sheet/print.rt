@@ -25,6 +25,7 @@ impl Sheet {
         2 * self.start.items().len() + 5 + (n + (2 * end.items().len() + 1))
     }
 
+    // That the sheet replays is required here and below, in a clause: it is a fact of two values, the sheet and the system.
     // Writes the lines of the steps over the front of `out`, and answers their length.
     fn print_steps<S: StepSystem>(&self, system: &S, out: &mut [u8]) -> usize
         requires replays { is_ok (end_told (S.transitions system.now) (page_of self.now)) ≡ true }
@@ -57,6 +58,7 @@ impl Sheet {
         let end = self.end(system, Standing::Released)?;
         let len = self.text_len(&end);
         if len > out.len() {
+            // It fits, so no `try_from`: a text has at most 5222 bytes.
             return Err(BenchFault::TextTooLong(len as u16));
         }
         self.write_text(system, &end, out);
@@ -70,6 +72,7 @@ impl Sheet {
         ensures { out.new ≡ over (sheet_text (S.transitions system.now) (page_of self.now) end.now) out.old }
     {
         let start = self.start.items();
+        // It fits, so no `try_from`: there are at most 32 steps.
         let _ = line::write(&[0, self.head.len as u8], start, out);
         let first = 2 * start.len() + 5;
         let steps = self.print_steps(system, &mut out[first..]);

@@ -19,14 +19,14 @@ impl Sheet {
         requires { count ≤ 32 }
         ensures { result ≡ replayed (S.transitions system.now) self.now.start (take count (page_of self.now).rows) }
     {
-        if let Err(fault) = system.state(self.start.items()) {
-            return Err(BenchFault::Stopped(0, fault));
-        }
-        let steps = &self.rows[..count];
-        match walk(system, &self.start, steps) {
-            Ok(end) => Ok(end),
-            Err(halt) => Err(BenchFault::Stopped(halt.number, halt.fault)),
-        }
+        system
+            .state(self.start.items())
+            .map_err(|fault| BenchFault::Stopped(0, fault))?;
+        let end = walk(system, &self.start, &self.rows[..count]).map_err(|halt| BenchFault::Stopped(
+            halt.number,
+            halt.fault,
+        ))?;
+        Ok(end)
     }
 
     // The end of a sheet of the given standing, or why it has none.

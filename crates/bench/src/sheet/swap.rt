@@ -36,6 +36,7 @@ impl Sheet {
     {
         self.end(system, Standing::Open)?;
         let len = self.head.len;
+        // `as` and no `From`: the check computes a cast, and would have to rewrite by what a call gives.
         let n = place as usize;
         if n == 0 || n >= len {
             return Err(BenchFault::NoSuchStep(place as u16));

@@ -1,9 +1,15 @@
-use Rattle.std.proofs.Common.{take, sym}
+use Rattle.std.proofs.Common.{take, rules, ◌≡◌, Ok}
+use Rattle.steps.specs.Told.{state_told}
+use Rattle.bench.specs.Walk.{walked}
 use Rattle.bench.proofs.Following.{arrives, stops}
 use Rattle.bench.proofs.sheet.Sheet.replay.Goals as goal
 
-pub returns-in-Ok : goal.returns-in-Ok
-returns-in-Ok g c = arrives (g.S.StepSystem.transitions c.args.system.now) c.args.self.now.start (take c.args.count c.args.self.now.rows) (sym (rw c.items.ensures.value at c.in_default.ensures)) c.in-Ok.end c.in-Ok.ensures
+pub returns-in_err-end : goal.returns-in_err-end
+returns-in_err-end g c = search (rules, stops)
 
-pub returns-in-Err-walk : goal.returns-in-Err-walk
-returns-in-Err-walk g c = stops (g.S.StepSystem.transitions c.args.system.now) c.args.self.now.start (take c.args.count c.args.self.now.rows) (sym (rw c.items.ensures.value at c.in_default.ensures)) c.in-Err-walk.halt c.in-Err-walk.ensures
+pub returns : goal.returns
+returns g c =
+    let t = g.S.StepSystem.transitions c.args.system.now in
+    let walk : Ok c.in_ok-end.end ≡ walked t c.args.self.now.start (take c.args.count c.args.self.now.rows) 1 = search rules in
+    let ok : state_told t c.args.self.now.start ≡ Ok tt = search rules in
+    arrives t c.args.self.now.start (take c.args.count c.args.self.now.rows) ok c.in_ok-end.end walk

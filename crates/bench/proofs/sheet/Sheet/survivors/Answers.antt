@@ -1,7 +1,10 @@
-use Rattle.std.proofs.Common.{◌≡◌, ◌+◌, ◌<◌, ◌≤◌, length, Err, sym, ap, ◌∙◌, subst, arith}
+use Rattle.std.proofs.Common.{rules, Ok, ◌≡◌, ◌+◌, ◌<◌, ◌≤◌, length, Err, sym, ap, ◌∙◌, subst, arith}
 use Rattle.joins.specs.Steps.{ShortSteps}
 use Rattle.bench.specs.declared.fault.BenchFault.TheVariants.{TooMany}
 use Rattle.bench.specs.Page.{page_of, steps_of}
+use Rattle.bench.specs.Join.{led}
+use Rattle.bench.specs.Walk.{walked}
+use Rattle.std.proofs.lemmas.Result.{err_from_is_err_and}
 use Rattle.bench.proofs.Replayed.{ok_is, replayed_short}
 use Rattle.bench.proofs.Joining.{both_steps, conflicts, too_many, stops_on_the_way, survives}
 use Rattle.bench.proofs.Following.{passes, blocks}
@@ -42,24 +45,25 @@ returns-then-len-gt32 g c =
       room = tt;
     }
 
-pub returns-in-Err-walk-clause-value : goal.returns-in-Err-walk-clause-value
-returns-in-Err-walk-clause-value g c =
+pub returns-in_err-map_err-clause-value : goal.returns-in_err-map_err-clause-value
+returns-in_err-map_err-clause-value g c =
     let t = g.S.StepSystem.transitions c.args.system.now in
     let i = g.S.StepSystem.independence c.args.system.now in
     let p = page_of c.args.self.now in
     let added = c.in-Ok.added in
     let size : length c.items.result.now ≡ length added = ap length c.items.ensures.value in
     let fits : p.len + length added ≤ 32 = omega arith in
-    let way = blocks t c.args.end.now added c.in-Err-walk.halt (rw c.items-2.ensures.value at c.in-Err-walk.ensures) in
-    sym (stops_on_the_way t i c.args.end.now p (page_of c.args.other.now) added (c.in-Ok.ensures.value ∙ both_steps i _ _ _ _ c.steps.ensures c.steps-2.ensures) fits c.in-Err-walk.halt.fault way)
+    let q = err_from_is_err_and c.from_residual.result c.from_residual.ensures.1 in
+    let way : Err c.in_err-map_err.field-0.0 ≡ led t c.args.end.now added = search (rules, blocks) in
+    q.1 ∙ ap Err q.2 ∙ sym (stops_on_the_way t i c.args.end.now p (page_of c.args.other.now) added (c.in-Ok.ensures.value ∙ both_steps i _ _ _ _ c.steps.ensures c.steps-2.ensures) fits c.in_err-map_err.field-0.0 way)
 
-pub returns-in-Ok-walk-clause-value : goal.returns-in-Ok-walk-clause-value
-returns-in-Ok-walk-clause-value g c =
+pub returns-clause-value : goal.returns-clause-value
+returns-clause-value g c =
     let t = g.S.StepSystem.transitions c.args.system.now in
     let i = g.S.StepSystem.independence c.args.system.now in
     let p = page_of c.args.self.now in
     let added = c.in-Ok.added in
     let size : length c.items.result.now ≡ length added = ap length c.items.ensures.value in
     let fits : p.len + length added ≤ 32 = omega arith in
-    let way = passes t c.args.end.now added c.in-Ok-walk.field-0 (rw c.items-2.ensures.value at c.in-Ok-walk.ensures) in
-    sym (survives t i c.args.end.now p (page_of c.args.other.now) added (c.in-Ok.ensures.value ∙ both_steps i _ _ _ _ c.steps.ensures c.steps-2.ensures) fits c.in-Ok-walk.field-0 way)
+    let walk : Ok c.in_ok-map_err.field-0 ≡ walked t c.args.end.now added 1 = search rules in
+    sym (survives t i c.args.end.now p (page_of c.args.other.now) added (c.in-Ok.ensures.value ∙ both_steps i _ _ _ _ c.steps.ensures c.steps-2.ensures) fits c.in_ok-map_err.field-0 (passes t c.args.end.now added c.in_ok-map_err.field-0 walk))
