@@ -1,4 +1,4 @@
-use Rattle.bench.proofs.Following.{leads_on, halts, leads_there}
+use Rattle.bench.proofs.Following.{leads_there}
 use Rattle.bench.proofs.state.walk.Goals as goal
 
 pub returns : goal.returns
