@@ -31,6 +31,7 @@ impl Setup<'_> {
 }
 
 // Reads what stands behind the kind of a setup.
+// The bound on the length is a clause here and in its callers, and no type: it is another one behind each byte.
 fn read_parts(fields: &[u8]) -> Result<Setup<'_>, FrameFault>
     requires { length fields.now < 1023 }
     ensures { viewed setup_view result ≡ parts_told (length fields.now + 2) (layout_told fields.now) }

@@ -16,6 +16,7 @@ impl<T: Blank, const N: usize> FixedList<T, N> {
     }
 
     // Holds the given items; none where there are more than N.
+    // By a name and not by `TryFrom`, which would ask for an error type that no caller reads.
     pub fn of(items: &[T]) -> Option<FixedList<T, N>>
         ensures { result ≡ fitted N items.now }
     {
