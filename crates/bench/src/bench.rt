@@ -1,4 +1,4 @@
-// The four sheets.
+// The four sheets, in a table: no heap is used, and there are never more or fewer.
 use crate::sheet::Sheet;
 
 pub mod calls;

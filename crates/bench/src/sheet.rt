@@ -27,7 +27,8 @@ pub struct Head {
 }
 
 // The start, and a row for each step; the rows past the length are left over.
-// A table beside a length and no list: the head is a record of its own, so that a look back can shorten it and leave the rows.
+// A table beside a length and no list: pages say what each row holds, past the length too, and the head is to be a record
+// of its own, which a look back can shorten.
 #[derive(Clone, Copy)]
 pub struct Sheet {
     head: Head,

@@ -5,6 +5,7 @@ use std::marker::Model;
 pub mod contents;
 
 // A value for the places that hold no item.
+// Not `Default`, of which a contract knows that a value is some default, and not which.
 pub trait Blank: Copy {
     ghost use Rattle.std.specs.Prelude.{◌≡◌};
 
@@ -15,6 +16,7 @@ pub trait Blank: Copy {
 }
 
 // The places behind the items are blank, so a list has one form; a contract sees the items alone.
+// A table with its length: no heap is used, and the kit's `ArrayVec`, which has a table too, is no `Copy`.
 #[derive(Copy)]
 pub struct FixedList<T: Blank, const N: usize> {
     len: usize,

@@ -32,6 +32,7 @@ impl Frame<'_> {
         if frame.len() > FRAME_LIMIT {
             return Err(FrameFault::Malformed(1024));
         }
+        // A pattern and no `split_first`: it shows the head of a frame as it stands.
         let [call, rest @ ..] = frame else {
             return Err(FrameFault::Malformed(0));
         };

@@ -23,6 +23,7 @@ impl Setup<'_> {
         ensures { viewed setup_view result ≡ setup_told fields.now }
     {
         let (kind, fields) = fields.split_first().ok_or(FrameFault::Malformed(1))?;
+        // By the byte itself: nets are the only kind.
         if *kind != 2 {
             return Err(FrameFault::BadSetup(1));
         }
@@ -31,7 +32,7 @@ impl Setup<'_> {
 }
 
 // Reads what stands behind the kind of a setup.
-// The bound on the length is a clause here and in its callers, and no type: it is another one behind each byte.
+// The bound on the length is a clause here and in its callers, and no type: each takes a byte off, and has another bound.
 fn read_parts(fields: &[u8]) -> Result<Setup<'_>, FrameFault>
     requires { length fields.now < 1023 }
     ensures { viewed setup_view result ≡ parts_told (length fields.now + 2) (layout_told fields.now) }
@@ -67,7 +68,7 @@ fn layout(fields: &[u8]) -> Option<(Setup<'_>, &[u8])>
 {
     let (pairs, rest) = split_off(fields, 2)?;
     let (names, rest) = split_off(rest, 1)?;
-    let (events, behind) = split_off(rest, EVENT_SIZE as u8)?;
+    let (events, behind) = split_off(rest, 17)?;
     let setup = Setup {
         pairs,
         names,

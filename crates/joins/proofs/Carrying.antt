@@ -13,6 +13,8 @@ use Rattle.runs.proofs.Carry.Carries.{through, meets, past}
 use Rattle.joins.specs.Steps.{ShortStep, ShortSteps}
 use Rattle.joins.specs.Carry.{carried_told}
 use Rattle.joins.specs.declared.meet.Clash.{Clash}
+use Rattle.joins.specs.declared.meet.Passed.{Passed}
+use Rattle.joins.specs.Meet.{met_told}
 use Rattle.joins.proofs.Asking.{left_short}
 
 -- steps in front of what remains
@@ -106,6 +108,10 @@ module _ {t : Transitions} {i : Independence} (laws : Laws t i) where
   carries_short (past {y = y} {x = x} {y' = y'} {x' = x'} e f c) s ss = (left_short laws x y x' ss.0 f, carries_short c (left_short laws y x y' s e) ss.1)
 
 -- a clash is told as one
+pub hits_told : (r : Result (Option Passed) Clash) → IsErr r → hits ≡ met_told r
+hits_told (Ok p) e = absurd (true≢false (sym e))
+hits_told (Err f) e = refl
+
 pub clash_told : (r : Result (Option Str × List Str) Clash) → IsErr r → clash ≡ carried_told r
 clash_told (Ok p) e = absurd (true≢false (sym e))
 clash_told (Err f) e = refl

@@ -32,8 +32,6 @@ pub fn exchange<S: StepSystem>(
     let Some(first) = Held::of(&bytes[..n]) else {
         return unreachable();
     };
-    let Some(second) = residual(system, x, &first) else {
-        return Ok(None);
-    };
-    Ok(Some(Neighbours { first, second }))
+    let second = residual(system, x, &first);
+    Ok(second.map(|second| Neighbours { first, second }))
 }

@@ -18,9 +18,8 @@ pub fn join<S: StepSystem>(system: &S, s: &StepList, e: &StepList) -> Result<Ste
     let mut added = StepList::empty();
     let mut remains = *s;
     for (k, step) in e.items().iter().enumerate() {
-        let Ok((survivor, rest)) = carry(system, step, &remains) else {
-            return Err(k + 1);
-        };
+        let number = k + 1;
+        let (survivor, rest) = carry(system, step, &remains).map_err(|_| number)?;
         if let Some(survivor) = survivor {
             added.push(survivor);
         }

@@ -32,12 +32,8 @@ pub(crate) fn meet<S: StepSystem>(
     if y.items() == x.items() {
         return Ok(None);
     }
-    let Some(y_rest) = residual(system, y, x) else {
-        return Err(Clash);
-    };
-    let Some(x_rest) = residual(system, x, y) else {
-        return Err(Clash);
-    };
+    let y_rest = residual(system, y, x).ok_or(Clash)?;
+    let x_rest = residual(system, x, y).ok_or(Clash)?;
     let passed = Passed {
         y: y_rest,
         x: x_rest,

@@ -9,10 +9,10 @@ use steps::fault::{MaskFault, SystemFault};
 pub(crate) fn read(state: &[u8]) -> Result<u64, MaskFault>
     ensures { result ≡ marking_told (read_marking state.now) }
 {
-    let Some(bytes) = state.as_array::<8>() else {
-        // It fits, so no `try_from`: it is 8 at most.
-        let place = state.len().min(8) as u16;
-        return Err(MaskFault::Inner(SystemFault::NoState(place)));
-    };
+    // It fits, so no `try_from`: it is 8 at most.
+    let place = state.len().min(8) as u16;
+    let bytes = state
+        .as_array::<8>()
+        .ok_or(MaskFault::Inner(SystemFault::NoState(place)))?;
     Ok(u64::from_be_bytes(*bytes))
 }

@@ -5,14 +5,14 @@ ghost use Rattle.server.specs.Answer.{net_view};
 
 use frame::fault::FrameFault;
 use frame::setup::Setup;
-use nets::net::{EVENT_LIMIT, Net};
+use nets::net::Net;
 
 // Makes the net, or refuses the first event that breaks a rule.
 pub(crate) fn build(setup: &Setup<'_>) -> Result<Net, FrameFault>
     ensures { net_view result ≡ net_told setup.now.events.now }
 {
     let mut net = Net::new();
-    for (i, event) in (0..EVENT_LIMIT as u8).zip(setup.events()) {
+    for (i, event) in (0..48u8).zip(setup.events()) {
         // A test and no `map_err`: of what a closure with the place in it gives, too little is known for the proof.
         if net.add(event).is_err() {
             return Err(FrameFault::BadSetup(Setup::event_place(i)));

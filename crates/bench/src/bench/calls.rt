@@ -25,7 +25,7 @@ fn index(sheet: u8) -> Result<usize, BenchFault>
     }
 }
 
-// Each call says that a refusal leaves the bench: a fact of a value before and after, which no type can hold.
+// Each call says that a refusal leaves the bench as it was: a fact of a value before and after, which no type can hold.
 impl Bench {
     // Four blank sheets.
     pub fn new() -> Bench

@@ -90,9 +90,7 @@ impl Sheet {
         let Standing::Open = self.head.standing else {
             return Err(BenchFault::WrongStanding(1));
         };
-        let Some(other) = other else {
-            return Err(BenchFault::NoSheet(2));
-        };
+        let other = other.ok_or(BenchFault::NoSheet(2))?;
         if let Standing::Blank = other.head.standing {
             return Err(BenchFault::WrongStanding(2));
         }

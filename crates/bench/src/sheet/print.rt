@@ -25,8 +25,8 @@ impl Sheet {
         2 * self.start.items().len() + 5 + (n + (2 * end.items().len() + 1))
     }
 
-    // That the sheet replays is required here and below, in a clause: it is a fact of two values, the sheet and the system.
     // Writes the lines of the steps over the front of `out`, and answers their length.
+    // That the sheet replays is a clause here, below, in swap and in join: a fact of two values, the sheet and the system.
     fn print_steps<S: StepSystem>(&self, system: &S, out: &mut [u8]) -> usize
         requires replays { is_ok (end_told (S.transitions system.now) (page_of self.now)) ≡ true }
         requires room { lines_length (steps_of (page_of self.now)) ≤ length out.old }

@@ -41,9 +41,8 @@ impl Sheet {
         if n == 0 || n >= len {
             return Err(BenchFault::NoSuchStep(place as u16));
         }
-        let Some(neighbours) = self.neighbours(system, n)? else {
-            return Err(BenchFault::Dependent(place as u16));
-        };
+        let dependent = BenchFault::Dependent(place as u16);
+        let neighbours = self.neighbours(system, n)?.ok_or(dependent)?;
         let before = self.replay(system, n - 1)?;
         following(system, &before, neighbours.first.items())?;
         self.rows[n - 1] = neighbours.first;

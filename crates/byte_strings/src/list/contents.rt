@@ -45,7 +45,7 @@ impl<T: Blank, const N: usize> FixedList<T, N> {
     }
 
     // Holds other items in the place of these; false, and these stay, where there are more than N.
-    // A test and no error: as where a set inserts, there is nothing more to tell.
+    // A `bool` and no error, as where something is inserted into a set: there is no more to tell.
     pub fn put(&mut self, items: &[T]) -> bool
         ensures answer { result ≡ nat_le (length items.now) N }
         ensures items { self.new ≡ (if leb (length items.now) N then items.now else self.old) }

@@ -37,13 +37,14 @@ impl Net {
     pub(crate) fn event(&self, step: &[u8]) -> Result<Event, MaskFault>
         ensures { result ≡ event_told (read_event (events_of self.now) step.now) }
     {
-        let [number, ..] = step else {
-            return Err(MaskFault::Inner(SystemFault::NoStep(0)));
-        };
-        let Some(event) = self.events.items().get(usize::from(*number)) else {
-            return Err(MaskFault::Inner(SystemFault::NoStep(0)));
-        };
-        if step.len() > 1 {
+        let none = MaskFault::Inner(SystemFault::NoStep(0));
+        let (number, rest) = step.split_first().ok_or(none)?;
+        let event = self
+            .events
+            .items()
+            .get(usize::from(*number))
+            .ok_or(none)?;
+        if !rest.is_empty() {
             return Err(MaskFault::Inner(SystemFault::NoStep(1)));
         }
         Ok(*event)

@@ -1,20 +1,12 @@
-use Rattle.std.proofs.Common.{replicate, Ok, sym, ap, ◌∙◌}
-use Rattle.joins.specs.Exchange.{turned, behind}
+use Rattle.std.proofs.Common.{◌≡◌, rules, replicate, Ok, sym, ap, ◌∙◌}
+use Rattle.joins.specs.Exchange.{neighbours_told, turned, behind}
 use Rattle.joins.proofs.Asking.{back_held}
 use Rattle.joins.proofs.exchange.exchange.Goals as goal
 
-pub residual-requires-clause-second : goal.residual-requires-clause-second
-residual-requires-clause-second g c =
+pub residual-second-requires-clause-second : goal.residual-second-requires-clause-second
+residual-second-requires-clause-second g c =
     (back_held (g.met.S.StepSystem.lawful c.args.system.now) c.args.x.now c.args.z.now c.requires.first c.requires.second c.items.result.now c.items-2.result.now c.items.ensures.value c.items-2.ensures.value
     c.in-Some.n c.back.new.out (replicate 64 0) (ap Ok (sym c.in-Some.is) ∙ c.in_ok-n.ensures.answer) c.in_ok-n.ensures.buffer c.in-Some-of.first c.in-Some-of.ensures).1
-
-pub returns-in_default-residual : goal.returns-in_default-residual
-returns-in_default-residual g c =
-    let i = g.S.StepSystem.independence c.args.system.now in
-    let x = c.args.x.now in
-    let back = back_held (g.met.S.StepSystem.lawful c.args.system.now) x c.args.z.now c.requires.first c.requires.second c.items.result.now c.items-2.result.now c.items.ensures.value c.items-2.ensures.value
-    c.in-Some.n c.back.new.out (replicate 64 0) (ap Ok (sym c.in-Some.is) ∙ c.in_ok-n.ensures.answer) c.in_ok-n.ensures.buffer c.in-Some-of.first c.in-Some-of.ensures in
-    ap (λ o. Ok (behind c.in-Some-of.first o)) c.in_default-residual.ensures ∙ sym (ap (turned i x) back.0)
 
 pub returns : goal.returns
 returns g c =
@@ -22,4 +14,5 @@ returns g c =
     let x = c.args.x.now in
     let back = back_held (g.met.S.StepSystem.lawful c.args.system.now) x c.args.z.now c.requires.first c.requires.second c.items.result.now c.items-2.result.now c.items.ensures.value c.items-2.ensures.value
     c.in-Some.n c.back.new.out (replicate 64 0) (ap Ok (sym c.in-Some.is) ∙ c.in_ok-n.ensures.answer) c.in_ok-n.ensures.buffer c.in-Some-of.first c.in-Some-of.ensures in
-    ap (λ o. Ok (behind c.in-Some-of.first o)) c.in-Some-residual.ensures ∙ sym (ap (turned i x) back.0)
+    let told : neighbours_told (Ok c.map.result) ≡ Ok (behind c.in-Some-of.first c.residual-second.result) = grind rules in
+    told ∙ ap (λ o. Ok (behind c.in-Some-of.first o)) c.residual-second.ensures ∙ sym (ap (turned i x) back.0)
