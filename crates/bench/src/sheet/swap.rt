@@ -36,12 +36,11 @@ impl Sheet {
     {
         self.end(system, Standing::Open)?;
         let len = self.head.len;
-        // `as` and no `From`: the check computes a cast, and would have to rewrite by what a call gives.
-        let n = place as usize;
+        let n = usize::from(place);
         if n == 0 || n >= len {
-            return Err(BenchFault::NoSuchStep(place as u16));
+            return Err(BenchFault::NoSuchStep(u16::from(place)));
         }
-        let dependent = BenchFault::Dependent(place as u16);
+        let dependent = BenchFault::Dependent(u16::from(place));
         let neighbours = self.neighbours(system, n)?.ok_or(dependent)?;
         let before = self.replay(system, n - 1)?;
         following(system, &before, neighbours.first.items())?;
