@@ -13,10 +13,8 @@ pub(crate) fn build(setup: &Setup<'_>) -> Result<Net, FrameFault>
 {
     let mut net = Net::new();
     for (i, event) in (0..48u8).zip(setup.events()) {
-        // A test and no `map_err`: of what a closure with the place in it gives, too little is known for the proof.
-        if net.add(event).is_err() {
-            return Err(FrameFault::BadSetup(Setup::event_place(i)));
-        }
+        let place = Setup::event_place(i);
+        net.add(event).map_err(|_| FrameFault::BadSetup(place))?;
     }
     Ok(net)
 }

@@ -1,21 +1,24 @@
-use Rattle.std.proofs.Common.{◌≡◌, ◌+◌, ◌-◌, ◌*◌, ◌<◌, Err, sym, ap, ◌∙◌, arith, drop, inl, inr}
+use Rattle.std.proofs.Common.{rules, true, false, is_err, ◌≡◌, ◌+◌, ◌-◌, ◌*◌, ◌<◌, Err, sym, ap, ◌∙◌, arith, drop, inl, inr}
 use Rattle.std.proofs.lemmas.List.{drop-drop}
 use Rattle.std.specs.Iterator.Adapters.{zip_first, zip_second}
 use Rattle.frame.specs.declared.fault.FrameFault.TheVariants.{BadSetup}
 use Rattle.frame.specs.Events.{event_place}
 use Rattle.nets.specs.Contents.{events_of}
 use Rattle.server.specs.Setup.{built}
+use Rattle.server.specs.Answer.{net_view}
 use Rattle.server.proofs.Building.{built_none, built_all, built_bad, built_more}
 use Rattle.server.proofs.setup.build.Goals as goal
 
-pub returns-then-is_err : goal.returns-then-is_err
-returns-then-is_err c =
+pub returns-in_err-map_err : goal.returns-in_err-map_err
+returns-in_err-map_err c =
     let inv = c.loop-i.invariant in
     let step = c.in-Some.ensures.steps in
     let i = (zip_first c.loop-i.i-iterator).start in
     let lt : i < 48 = omega (arith, step.0.1.0, inv.end) in
-    ap (λ n. Err (BadSetup n)) (c.event_place.ensures ∙ ap event_place step.0.1.1)
-    ∙ built_bad c.args.setup.now.events.now (zip_second c.loop-i.i-iterator).rest.now (events_of c.loop-i.net) i _ inv.so_far inv.left c.in-Some.event lt step.1.0 c.add.result c.add.ensures.answer (sym c.if-is_err.ensures.value)
+    let failed : is_err c.add.result ≡ true = search rules in
+    let told : net_view c.from_residual.result ≡ Err (BadSetup c.event_place-place.result) = search rules in
+    told ∙ ap (λ n. Err (BadSetup n)) (c.event_place-place.ensures ∙ ap event_place step.0.1.1)
+    ∙ built_bad c.args.setup.now.events.now (zip_second c.loop-i.i-iterator).rest.now (events_of c.loop-i.net) i _ inv.so_far inv.left c.in-Some.event lt step.1.0 c.add.result c.add.ensures.answer failed
 
 pub loop-i-preserved : goal.loop-i-preserved
 loop-i-preserved c =
@@ -26,7 +29,8 @@ loop-i-preserved c =
     let lt : i < 48 = omega (arith, step.0.1.0, inv.end) in
     let next : (zip_first c.next.new.self).start ≡ i + 1 = step.0.1.2 in
     let on : 17 * i + 17 ≡ 17 * (zip_first c.next.new.self).start = omega arith in
-    let more = built_more bytes (zip_second c.loop-i.i-iterator).rest.now (events_of c.loop-i.net) i _ inv.so_far inv.left c.in-Some.event lt step.1.0 c.add.result (events_of c.add.new.self) c.add.ensures.answer (sym c.if-is_err.ensures.value) c.add.ensures.events in
+    let taken : is_err c.add.result ≡ false = search rules in
+    let more = built_more bytes (zip_second c.loop-i.i-iterator).rest.now (events_of c.loop-i.net) i _ inv.so_far inv.left c.in-Some.event lt step.1.0 c.add.result (events_of c.add.new.self) c.add.ensures.answer taken c.add.ensures.events in
     record {
       can = inv.can;
       finite = inv.finite;
