@@ -43,6 +43,7 @@ impl BenchFault {
     }
 }
 
+// Each layer of faults has a match of this shape, with numbers of its own.
 impl From<BenchFault> for Refusal {
     ghost from_gives = { λ f r. r ≡ bench_refusal f };
 

@@ -23,6 +23,7 @@ pub(crate) fn following<S: StepSystem>(
 ) -> Result<Held<256>, MaskFault>
     ensures { result ≡ next_told (S.transitions system.now) state.now step.now 256 }
 {
+    // A lent buffer and a length: so the interface of step systems answers, without a heap.
     let mut bytes = [0u8; 256];
     let len = system.next(state.items(), step, &mut bytes)?;
     let Some(next) = Held::of(&bytes[..len]) else {

@@ -18,7 +18,7 @@ pub fn write(bytes: &[u8], out: &mut [u8]) -> Option<usize>
     if out.len() / 2 < bytes.len() {
         return None;
     }
-    // By index: after a loop over `as_chunks_mut` or `chunks_exact_mut`, or down `[high, low, rest @ ..]`, a proof knows no byte of `out` at the return.
+    // By index: after a loop over `as_chunks_mut`, `chunks_exact_mut` or `split_first_chunk_mut`, or down `[high, low, rest @ ..]`, a proof knows no byte of `out`; and `iter_mut` with two digits moved on by hand is no plainer.
     for (i, byte) in bytes.iter().enumerate() {
         out[2 * i] = digits::digit(*byte / 16);
         out[2 * i + 1] = digits::digit(*byte % 16);
@@ -27,6 +27,7 @@ pub fn write(bytes: &[u8], out: &mut [u8]) -> Option<usize>
 }
 
 // Reads a line into the front of `out`, as many bytes as it holds at most: how many, or how many sound ones precede the fault.
+// The error is that number, a place and no kind of error.
 pub fn read(line: &[u8], out: &mut [u8]) -> Result<usize, usize>
     ensures answer { result ≡ count (read_told line.now (length out.old)) }
     ensures buffer { out.new ≡ over (take (length out.old) (sound line.now)) out.old }

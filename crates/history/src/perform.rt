@@ -24,7 +24,7 @@ pub fn perform<S: StepSystem>(
         return None;
     }
     let mut bench = Bench::new();
-    // By index: after a loop over `answers.iter_mut().zip(calls)`, `answers[..calls.len()].iter_mut().zip(calls)` or `calls.iter().zip(answers)` a proof knows how many answers there are, but none of them.
+    // By index: after `answers.iter_mut().zip(calls)` and two zips like it a proof knows how many answers there are, but none of them; and `iter_mut` alone, with the calls moved on by hand, is no plainer.
     for (i, call) in calls.iter().enumerate() {
         answers[i] = turn::turn(&mut bench, system, call);
     }

@@ -27,6 +27,7 @@ pub(crate) fn turn<S: StepSystem>(
             Ok(Answer::Opened)
         }
         Call::Add { sheet, step } => {
+            // Here and below a lent buffer and a length, as the bench answers, without a heap.
             let mut out = [0u8; 256];
             let n = bench.add(system, *sheet, step, &mut out)?;
             Ok(end_at(&out[..n]))

@@ -25,8 +25,10 @@ pub fn exchange<S: StepSystem>(
     requires second { ShortStep (S.transitions system.now) z.now }
     ensures { neighbours_told result ≡ exchanged_told (S.independence system.now) x.now z.now }
 {
+    // A lent buffer and a length: so the interface of step systems answers, without a heap.
     let mut bytes = [0u8; 64];
     let Some(n) = system.back(x.items(), z.items(), &mut bytes)? else {
+        // Here `?` has nothing to turn: none is an answer, inside a result.
         return Ok(None);
     };
     let Some(first) = Held::of(&bytes[..n]) else {

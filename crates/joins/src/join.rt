@@ -9,6 +9,7 @@ use crate::list::StepList;
 use steps::system::StepSystem;
 
 // What is left of the steps of e behind those of s; else the number, from 1, of the first step of e that clashes.
+// The error is that number, a place and no kind of error.
 pub fn join<S: StepSystem>(system: &S, s: &StepList, e: &StepList) -> Result<StepList, usize>
     requires first { ShortSteps (S.transitions system.now) s.now }
     requires second { ShortSteps (S.transitions system.now) e.now }

@@ -30,6 +30,7 @@ pub(crate) fn meet<S: StepSystem>(
     ensures { met_told result ≡ theory.meet (S.independence system.now) y.now x.now }
 {
     if y.items() == x.items() {
+        // One step; `?` has nothing to turn here.
         return Ok(None);
     }
     let y_rest = residual(system, y, x).ok_or(Clash)?;

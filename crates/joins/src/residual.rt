@@ -12,6 +12,7 @@ pub(crate) fn residual<S: StepSystem>(system: &S, x: &Held<64>, y: &Held<64>) ->
     requires second { ShortStep (S.transitions system.now) y.now }
     ensures { result ≡ (S.independence system.now).left x.now y.now }
 {
+    // A lent buffer and a length: so the interface of step systems answers, without a heap.
     let mut bytes = [0u8; 64];
     let Ok(answer) = system.residual(x.items(), y.items(), &mut bytes) else {
         return unreachable();

@@ -38,6 +38,7 @@ impl Server {
         ensures setups { SetupsGiveNets }
     {
         let out = out.first_chunk_mut::<TEXT_LIMIT>()?;
+        // A match and no `unwrap_or_else`: of what that closure leaves in `out` the proof did not close.
         match self.reply(line, out) {
             Ok(n) => Some(n),
             Err(fault) => Some(text::refuse(fault, out)),
@@ -49,10 +50,11 @@ impl Server {
         ensures answer { Answers (line_reply (model_of self.old) line.now).text result out.old out.new }
         ensures model { model_of self.new ≡ (line_reply (model_of self.old) line.now).model }
     {
+        // A lent buffer and a length, as lines are read without a heap.
         let mut bytes = [0u8; FRAME_LIMIT];
         match hexadecimal::read(line, &mut bytes) {
             Ok(n) => self.call(Frame::read(&bytes[0..n])?, out),
-            // It fits, so no `try_from`: at most 1024 bytes are read.
+            // It fits, so no `try_from`, and is known to fit of this answer only, so no `map_err`: at most 1024 bytes are read.
             Err(place) => Err(FrameFault::Malformed(place as u16).into()),
         }
     }

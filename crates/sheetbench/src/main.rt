@@ -36,9 +36,10 @@ fn main(rt: HostRuntime) -> io::Result<()> {
     let mut input = rt.stdin();
     let mut output = rt.stdout();
     let mut session = Session::new();
+    // Buffers with lengths: `Read` and `Write` lend slices, and no heap is used.
     let mut chunk = [0u8; CHUNK];
     let mut out = [0u8; CHUNK];
-    // No input comes near that many reads, and every loop has to end.
+    // By a count and no `loop`, whose end does not prove: what is read may go on. No input comes near that many reads.
     for _ in 0..u64::MAX {
         let n = input.read(&mut chunk)?;
         if n == 0 {

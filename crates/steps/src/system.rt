@@ -9,6 +9,7 @@ use crate::fault::MaskFault;
 use crate::label::Label;
 
 // A question changes nothing. It answers the meaning, or the first refusal in the order: no step, masked, no state, not possible, too long.
+// An answer of bytes is written to a lent buffer, and its length given back: no heap is used.
 pub trait StepSystem {
     ghost transitions: { Self → Transitions };
 

@@ -8,6 +8,7 @@ use crate::sum::Sum;
 use steps::system::StepSystem;
 
 // Distinct steps are apart.
+// An impl of the same shape as the other relation's: what they share is `Sum`.
 #[derive(Clone, Copy)]
 pub struct Distinct;
 

@@ -76,7 +76,7 @@ impl<R: Relation> StepSystem for Sum<R> {
     }
 }
 
-// The byte that a string is, or the place where it ends too early or goes on too long.
+// The byte that a string is, or the place, and no kind of error, where it ends too early or goes on too long.
 fn read(string: &[u8]) -> Result<u8, u16>
     ensures { result ≡ read_byte string.now }
 {

@@ -10,6 +10,7 @@ use crate::state::answer;
 use byte_strings::held::Held;
 use steps::system::StepSystem;
 
+// Each call here and in the files beside says that a refusal leaves the sheet as it was: no type can hold that.
 impl Sheet {
     // A sheet with no run.
     pub(crate) fn blank() -> Sheet

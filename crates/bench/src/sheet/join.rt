@@ -35,6 +35,7 @@ impl Sheet {
     }
 
     // The steps of the other sheet that survive behind those of this one, which ends in `end`.
+    // That both sheets replay is a clause: a fact of each and of the system.
     fn survivors<S: StepSystem>(
         &self,
         system: &S,

@@ -18,6 +18,7 @@ impl Sheet {
         ensures value { result ≡ text_length (page_of self.now) end.now }
         ensures bound { result ≤ 5222 }
     {
+        // A loop and no `map` and `sum`: that such a sum fits did not prove.
         let mut n = 0;
         for step in &self.rows[..self.head.len] {
             n += 2 * step.items().len() + 3;

@@ -15,6 +15,7 @@ use steps::system::StepSystem;
 
 impl Sheet {
     // The steps n and n + 1 of a sheet that replays, the other way round, where they can be exchanged.
+    // That it replays is a clause: a fact of the sheet and of the system.
     fn neighbours<S: StepSystem>(
         &self,
         system: &S,

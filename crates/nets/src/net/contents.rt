@@ -39,11 +39,7 @@ impl Net {
     {
         let none = MaskFault::Inner(SystemFault::NoStep(0));
         let (number, rest) = step.split_first().ok_or(none)?;
-        let event = self
-            .events
-            .items()
-            .get(usize::from(*number))
-            .ok_or(none)?;
+        let event = self.events.items().get(usize::from(*number)).ok_or(none)?;
         if !rest.is_empty() {
             return Err(MaskFault::Inner(SystemFault::NoStep(1)));
         }
