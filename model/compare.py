@@ -6,13 +6,13 @@ from __future__ import annotations
 import argparse
 import subprocess
 import sys
-from collections import Counter, defaultdict
 from collections.abc import Iterator
-from dataclasses import dataclass, field
+from dataclasses import dataclass
 from pathlib import Path
 
 from generate import generate
-from sheetbench import MOST_STEPS, Number, Server, split_lines
+from sheetbench import Server, split_lines
+from tally import Tally, answer_with_names
 
 DEFAULT_SEEDS = tuple(range(1, 17))
 DEFAULT_FRAMES = 2500
@@ -35,73 +35,6 @@ EDGES = (
     b"00" * 1025,
     b"0" * 1_000_000,
 )
-
-# How many different places each refusal must have occurred at.
-LEAST_PLACES = {
-    Number.FRAME: 20,
-    Number.SETUP: 6,
-    Number.SHEET: 1,
-    Number.STATE: 3,
-    Number.STEP: 2,
-    Number.IMPOSSIBLE: 1,
-    Number.FULL: 1,
-    Number.EMPTY: 1,
-    Number.REPLAY: 10,
-}
-# What must have stopped replays. A start that was once opened is a state in
-# every net, so STATE cannot be among them while nets are the only systems.
-STOPPING = (Number.STEP, Number.IMPOSSIBLE)
-CALLS = (0xA0, 0xB0, 0xB1, 0xB3, 0xB5, 0xB6, 0xB7)
-PRINT = 0xB7
-
-
-@dataclass
-class Tally:
-    """What has occurred in the answers."""
-
-    accepted: Counter[int] = field(default_factory=Counter)
-    refused: Counter[int] = field(default_factory=Counter)
-    places: dict[int, set[int]] = field(default_factory=lambda: defaultdict(set))
-    stopping: Counter[int] = field(default_factory=Counter)
-    longest_print: int = 0
-
-    def count(self, line: bytes, answer: bytes) -> None:
-        first = bytes.fromhex(answer.split(b"\n", 1)[0].decode("ascii"))
-        if first[0] == 0:
-            call = int(line[:2], 16)
-            self.accepted[call] += 1
-            if call == PRINT:
-                self.longest_print = max(self.longest_print, first[1])
-            return
-        number, place = first[0], int.from_bytes(first[2:4], "big")
-        self.refused[number] += 1
-        self.places[number].add(place)
-        if number == Number.REPLAY:
-            self.stopping[first[4]] += 1
-
-    def show(self) -> None:
-        for call, times in sorted(self.accepted.items()):
-            print(f"call {call:02X}: {times} accepted")
-        for number, times in sorted(self.refused.items()):
-            print(f"refusal {number}: {times} at {len(self.places[number])} places")
-        for number, times in sorted(self.stopping.items()):
-            print(f"replay stopped by refusal {number}: {times}")
-        print(f"longest print: {self.longest_print} steps")
-
-    def lacks(self) -> Iterator[str]:
-        """What should have occurred and has not."""
-        for call in CALLS:
-            if not self.accepted[call]:
-                yield f"call {call:02X} was never accepted"
-        for number, least in LEAST_PLACES.items():
-            found = len(self.places[number])
-            if found < least:
-                yield f"refusal {number.value} occurred at {found} places, fewer than {least}"
-        for number in STOPPING:
-            if not self.stopping[number]:
-                yield f"no replay was stopped by refusal {number.value}"
-        if self.longest_print < MOST_STEPS:
-            yield "no full sheet was printed"
 
 
 @dataclass
@@ -150,12 +83,13 @@ def compare_session(program: Path, name: str, data: bytes, tally: Tally) -> tupl
     """The number of frames answered alike, and whether all is well."""
     lines = split_lines(data)
     server = Server()
-    answers = [server.answer(line) for line in lines]
+    answered = [answer_with_names(server, line) for line in lines]
+    answers = [answer for answer, _ in answered]
     output, ending = run_program(program, data)
     difference = first_difference(lines, answers, output)
     passed = difference.frame if difference else len(lines)
-    for line, answer in zip(lines[:passed], answers):
-        tally.count(line, answer)
+    for line, (answer, names) in zip(lines[:passed], answered):
+        tally.count(line, answer, names)
     if difference:
         print(f"{name}, frame {difference.frame} (from 0)")
         print(f"frame:   {shorten(difference.line)}")

@@ -32,10 +32,10 @@ from sheetbench import (
     encode_set,
 )
 
-SETUP, OPEN, ADD, WITHDRAW, RELEASE, REOPEN, PRINT = 0xA0, 0xB0, 0xB1, 0xB3, 0xB5, 0xB6, 0xB7
-CALLS = (SETUP, OPEN, ADD, WITHDRAW, RELEASE, REOPEN, PRINT)
-REPLAYING_CALLS = (ADD, WITHDRAW, RELEASE, REOPEN, PRINT)
-NO_CALLS = (0x00, 0x9F, 0xA1, 0xAF, 0xB2, 0xB4, 0xB8, 0xB9, 0xBA, 0xC0, 0xFF)
+SETUP, OPEN, ADD, SWAP, WITHDRAW, JOIN, RELEASE, REOPEN, PRINT = 0xA0, *range(0xB0, 0xB8)
+CALLS = (SETUP, OPEN, ADD, SWAP, WITHDRAW, JOIN, RELEASE, REOPEN, PRINT)
+REPLAYING_CALLS = (ADD, SWAP, WITHDRAW, JOIN, RELEASE, REOPEN, PRINT)
+NO_CALLS = (0x00, 0x9F, 0xA1, 0xAF, 0xB8, 0xB9, 0xBA, 0xC0, 0xFF)
 NO_ACTIONS = (0x40, 0x80, 0x81, 0xBF, 0xC1, 0xFF)
 DIGITS = b"0123456789ABCDEF"
 # Neighbours of the digits in ASCII, blanks, and bytes outside ASCII.
@@ -110,6 +110,24 @@ def rings_net(random: Random) -> list[Event]:
     return events
 
 
+def tokens_net(random: Random) -> list[Event]:
+    """Tokens, each with a few conditions of its own to go round, and events that move one or two of them.
+
+    Some events come twice, with two numbers.
+    """
+    conditions = random_conditions(random, 20)
+    homes = []
+    while len(conditions) > 1 and len(homes) < 6:
+        size = random.choice((2, 3, 4))
+        homes.append(conditions[:size])
+        conditions = conditions[size:]
+    events = []
+    for _ in range(random.choice((6, 12, 20, 30))):
+        moves = [random.sample(home, 2) for home in random.sample(homes, random.choice((1, 1, 1, 2)))]
+        events.append(event_between(random, [before for before, _ in moves], [after for _, after in moves]))
+    return events + random.sample(events, random.choice((0, 3, 6)))
+
+
 def tangled_net(random: Random) -> list[Event]:
     """Small disjoint sets over few conditions; some events have their reverse."""
     conditions = random_conditions(random, random.randrange(3, 9))
@@ -149,6 +167,7 @@ def empty_net(random: Random) -> list[Event]:
 NETS: dict[Callable[[Random], list[Event]], int] = {
     ring_net: 8,
     rings_net: 6,
+    tokens_net: 8,
     tangled_net: 8,
     wide_net: 3,
     full_net: 3,
@@ -429,7 +448,7 @@ class Session:
         """Adds a line; says whether its call is accepted."""
         self.lines.append(line)
         accepted = self.server.answer(line).startswith(b"00")
-        if accepted and line[:2].upper() in (b"B0", b"B1"):
+        if accepted and line[:2].upper() in (b"B0", b"B1", b"B2", b"B4"):
             self.homes[int(line[2:4], 16)] = self.net
         return accepted
 
@@ -467,15 +486,28 @@ class Session:
             marking |= {c for c in range(CONDITIONS) if c not in used and random.random() < 0.5}
         return encode_set(marking)
 
+    def lively_state(self) -> bytes:
+        """A state in which many events are possible, also such as shut each other out."""
+        hold: set[int] = set()
+        free: set[int] = set()
+        for event in self.random.sample(self.events, len(self.events)):
+            if event.before.isdisjoint(free) and event.after.isdisjoint(hold):
+                hold |= event.before
+                free |= event.after
+        return encode_set(hold)
+
     def wrong_state(self) -> bytes:
         lengths = (*range(SET_BYTES), *range(SET_BYTES + 1, 14), 255, 256, 257, 300, MOST_FRAME_BYTES - 2)
         return self.random.randbytes(self.random.choice(lengths))
 
-    def possible_step(self, number: int) -> bytes | None:
+    def possible_steps(self, number: int) -> list[int]:
         marking = self.end(number)
         if marking is None:
-            return None
-        possible = [i for i, event in enumerate(self.net.events) if event.is_possible(marking)]
+            return []
+        return [i for i, event in enumerate(self.net.events) if event.is_possible(marking)]
+
+    def possible_step(self, number: int) -> bytes | None:
+        possible = self.possible_steps(number)
         return bytes([self.random.choice(possible)]) if possible else None
 
     def some_step(self) -> bytes:
@@ -488,6 +520,31 @@ class Session:
         more = random.randbytes(random.choice((1, 1, 2, 8, 100, MOST_FRAME_BYTES - 3)))
         return random.choice((b"", beyond, beyond, beyond + more, self.some_step() + more, self.some_step() + more))
 
+    def swap_places(self, number: int) -> list[int]:
+        """The places at which the steps of a sheet can be swapped."""
+        try:
+            steps = self.server.bench.replay(self.sheet(number)).steps
+        except Refusal:
+            return []
+        return [place for place in range(1, len(steps)) if self.net.independent(*steps[place - 1 : place + 1])]
+
+    def some_place(self, number: int) -> int:
+        """A place for a swap, mostly one that works."""
+        places = self.swap_places(number)
+        return self.random.choice(places) if places and self.random.random() < 0.8 else self.wrong_place(number)
+
+    def wrong_place(self, number: int) -> int:
+        """A place at which the steps of a sheet cannot be swapped."""
+        length = len(self.sheet(number).steps)
+        outside = self.random.choice((0, length, length + 1, 0xFF, self.random.randrange(length, 256)))
+        inside = sorted(set(range(1, length)) - set(self.swap_places(number)))
+        return self.random.choice(inside) if inside and self.random.random() < 0.5 else outside
+
+    def with_steps(self, call: int, least: int) -> int:
+        """A sheet that takes the call and has so many steps, if there is one."""
+        found = [n for n in self.with_standing(*call_needs(call)) if len(self.sheet(n).steps) >= least]
+        return self.random.choice(found) if found else self.sheet_for(call)
+
     def likely_frame(self) -> bytes:
         """A frame of any call that may well be accepted."""
         call = self.random.choice(CALLS)
@@ -499,6 +556,10 @@ class Session:
             return head + self.good_state()
         if call == ADD:
             return head + (self.possible_step(number) or self.some_step())
+        if call == SWAP:
+            return head + bytes([self.some_place(number)])
+        if call == JOIN:
+            return head + bytes([self.any_sheet()])
         return head
 
     # Moves of good sense
@@ -579,6 +640,12 @@ class Session:
         if call == ADD:
             step = self.wrong_step() if self.random.random() < 0.2 else self.some_step()
             self.send(call, number, step)
+        elif call == SWAP:
+            self.send(call, number, self.some_place(number))
+        elif call == JOIN and self.random.random() < 0.5:
+            self.send(call, self.sheet_for(call), number)
+        elif call == JOIN:
+            self.send(call, number, self.any_sheet())
         else:
             self.send(call, number)
 
@@ -622,10 +689,7 @@ class Session:
 
     def withdraw(self) -> None:
         """Takes steps away, sometimes beyond the last."""
-        with_steps = [n for n in self.with_standing(Standing.OPEN) if self.sheet(n).steps]
-        number = self.sheet_for(WITHDRAW)
-        if with_steps and self.random.random() < 0.8:
-            number = self.random.choice(with_steps)
+        number = self.with_steps(WITHDRAW, least=1) if self.random.random() < 0.8 else self.sheet_for(WITHDRAW)
         for _ in range(self.random.choice((1, 1, 2, 5, MOST_STEPS + 1))):
             if not self.send(WITHDRAW, number):
                 break
@@ -646,6 +710,148 @@ class Session:
 
     def reopen(self) -> None:
         self.send(REOPEN, self.sheet_for(REOPEN))
+
+    # Swaps and joins
+
+    def swap(self) -> None:
+        number = self.with_steps(SWAP, least=2)
+        for _ in range(self.random.choice((1, 1, 2, 5))):
+            self.send(SWAP, number, self.some_place(number))
+
+    def swap_in_vain(self) -> None:
+        number = self.with_steps(SWAP, least=self.random.choice((0, 2)))
+        self.send(SWAP, number, self.wrong_place(number))
+
+    def join(self) -> None:
+        """Joins any two sheets, or a sheet with itself."""
+        number = self.with_steps(JOIN, least=1)
+        self.send(JOIN, number, number if self.random.random() < 0.2 else self.any_sheet())
+
+    def open_two(self) -> tuple[int, int]:
+        """Two sheets, neither of them released."""
+        one, other = self.random.sample(range(SHEETS), 2)
+        self.free(one)
+        self.free(other)
+        return one, other
+
+    def copy(self, source: int, target: int) -> None:
+        """Gives a sheet the start and the steps of another, by a join or by adding."""
+        sheet = self.sheet(source)
+        self.send(OPEN, target, sheet.start)
+        if self.random.random() < 0.5:
+            self.send(JOIN, target, source)
+        else:
+            for step in list(sheet.steps):
+                self.send(ADD, target, step)
+
+    def shuffle(self, number: int, count: int) -> None:
+        for _ in range(count):
+            places = self.swap_places(number)
+            if places:
+                self.send(SWAP, number, self.random.choice(places))
+
+    def add_possible(self, number: int, count: int) -> None:
+        for _ in range(count):
+            step = self.possible_step(number)
+            if step is not None:
+                self.send(ADD, number, step)
+
+    def add_rival(self, number: int, other: int) -> None:
+        """Adds a step that is neither the last step of the other sheet nor independent of it."""
+        for last in self.sheet(other).steps[-1:]:
+            rivals = [s for s in self.possible_steps(number) if s != last[0] and not self.net.independent(s, last[0])]
+            if rivals:
+                self.send(ADD, number, self.random.choice(rivals))
+
+    def part_and_join(self) -> None:
+        """Two sheets begin with the same steps in different orders, go on each on its own, and are joined."""
+        random = self.random
+        one, other = self.open_two()
+        if random.random() < 0.7:
+            self.send_setup(random.choice((rings_net, tokens_net, tokens_net, tangled_net))(random))
+        self.send(OPEN, one, self.lively_state())
+        self.add_possible(one, random.choice((0, 1, 2, 3, 4, 5, 6, 8, 12)))
+        self.copy(one, other)
+        self.shuffle(other, random.choice((0, 1, 3, 6)))
+        self.add_possible(one, random.choice((0, 1, 1, 2, 4)))
+        self.add_possible(other, random.choice((0, 1, 1, 2, 4)))
+        if random.random() < 0.5:
+            self.add_rival(other, one)
+            self.add_possible(other, random.choice((0, 1)))
+        if random.random() < 0.3:
+            self.send(RELEASE, other)
+        elif random.random() < 0.3:
+            self.send(JOIN, other, one)
+        self.send(JOIN, one, other)
+        self.after_join(one, other)
+
+    def after_join(self, one: int, other: int) -> None:
+        """Looks at what a join has left."""
+        chance = self.random.random()
+        if chance < 0.2:
+            self.send(JOIN, one, other)
+        elif chance < 0.4:
+            self.shuffle(one, 2)
+        elif chance < 0.5:
+            self.send(WITHDRAW, one)
+            self.send(JOIN, one, other)
+        if self.random.random() < 0.6:
+            self.send(RELEASE, one)
+            self.send(PRINT, one)
+
+    def join_near_limit(self) -> None:
+        """Two runs with about as many steps in all as a sheet takes.
+
+        They do not get in each other's way, but perhaps with a last step.
+        """
+        random = self.random
+        one, other = self.open_two()
+        near = range(MOST_STEPS - 1, MOST_STEPS + 2)
+        total = random.choice((*near, random.randrange(MOST_STEPS, 2 * MOST_STEPS + 1)))
+        least, most = max(0, total - MOST_STEPS), min(MOST_STEPS, total)
+        shared = random.choice((0, random.randrange(most - least + 1)))
+        own = random.randrange(least, most - shared + 1)
+        conditions = random_conditions(random, 13)
+        rings = [ring_events(random, conditions[i : i + 4]) for i in (0, 4, 8)]
+        starts = [ring[0].before for ring in rings]
+        rival = event_between(random, conditions[:1], conditions[12:])
+        self.send_setup([event for ring in rings for event in ring] + [rival])
+        for number, ring, count in ((one, 0, own), (other, 1, total - shared - own)):
+            self.send(OPEN, number, encode_set(set().union(*starts)))
+            self.walk_rings(number, random.sample([ring] * count + [2] * shared, count + shared))
+        if random.random() < 0.3:
+            self.send(ADD, other, 12)
+        self.send(JOIN, one, other)
+        self.after_join(one, other)
+
+    def walk_rings(self, number: int, rings: list[int]) -> None:
+        """Adds the next event of each of these rings of four."""
+        for place, ring in enumerate(rings):
+            self.send(ADD, number, 4 * ring + rings[:place].count(ring) % 4)
+
+    def join_in_vain(self) -> None:
+        """A join of which one sheet, or both, cannot be used."""
+        random = self.random
+        no_sheet = random.choice((SHEETS, SHEETS + 1, 0x80, 0xFF))
+        not_open = random.choice(self.with_standing(Standing.BLANK, Standing.RELEASED) or [no_sheet])
+        blank = random.choice(self.with_standing(Standing.BLANK) or [no_sheet])
+        number, other = self.sheet_for(JOIN), self.any_sheet()
+        self.send(JOIN, *random.choice((
+            (no_sheet, other),
+            (not_open, other),
+            (not_open, not_open),
+            (number, no_sheet),
+            (number, blank),
+            (not_open, blank),
+        )))
+
+    def try_blank(self) -> None:
+        """Swaps and joins while most sheets are blank."""
+        self.send(OPEN, self.any_sheet(), self.good_state())
+        for number in self.random.sample(range(SHEETS), SHEETS):
+            self.send(JOIN, self.sheet_for(JOIN), number)
+            self.send(JOIN, number, self.any_sheet())
+            self.send(SWAP, number, 1)
 
     # Moves that are mostly refused
 
@@ -668,14 +874,17 @@ class Session:
 
     def send_to(self, call: int, number: int) -> None:
         """The call for this sheet, with a good or a wrong argument if it takes one."""
+        rest = b""
         if call == OPEN:
-            self.send(call, number, self.random.choice((self.good_state, self.wrong_state))())
+            rest = self.random.choice((self.good_state, self.wrong_state))()
         elif call == ADD:
-            self.send(call, number, self.random.choice((self.some_step, self.wrong_step))())
-        elif self.random.random() < 0.1:
-            self.send(call, number, self.random.randbytes(1))
-        else:
-            self.send(call, number)
+            rest = self.random.choice((self.some_step, self.wrong_step))()
+        elif call == SWAP:
+            rest = bytes([self.random.randrange(MOST_STEPS)])
+        elif call == JOIN:
+            rest = bytes([self.any_sheet()])
+        extra = self.random.randbytes(1) if self.random.random() < 0.1 else b""
+        self.send(call, number, rest, extra)
 
     def bad_setup(self) -> None:
         events = self.events if self.random.random() < 0.5 else random_net(self.random)
@@ -756,6 +965,11 @@ GOOD_MOVES: dict[Callable[[Session], None], int] = {
     Session.print: 50,
     Session.reopen: 80,
     Session.probe: 60,
+    Session.swap: 60,
+    Session.swap_in_vain: 30,
+    Session.join: 60,
+    Session.part_and_join: 60,
+    Session.join_near_limit: 10,
 }
 
 WRONG_MOVES: dict[Callable[[Session], None], int] = {
@@ -763,6 +977,7 @@ WRONG_MOVES: dict[Callable[[Session], None], int] = {
     Session.add_wrong_step: 60,
     Session.wrong_standing: 40,
     Session.no_sheet: 30,
+    Session.join_in_vain: 30,
     Session.bad_setup: 90,
     Session.no_call: 30,
     Session.mutated: 160,
@@ -778,7 +993,9 @@ def generate_session(seed: int, frames: int, wrong_moves: bool = True) -> Sessio
     session = Session(seed)
     moves = GOOD_MOVES | WRONG_MOVES if wrong_moves else GOOD_MOVES
     choices, weights = list(moves), list(moves.values())
-    # Half of the sessions begin before any setup.
+    # Half of the sessions begin before any setup, and half with blank sheets.
+    if session.random.random() < 0.5:
+        session.try_blank()
     if session.random.random() < 0.5:
         session.new_net()
     while len(session.lines) < frames:

@@ -49,7 +49,11 @@ class Number(IntEnum):
     STEP = 5
     IMPOSSIBLE = 6
     FULL = 9
-    EMPTY = 10
+    ABSENT = 10
+    DEPENDENT = 11
+    STARTS = 13
+    CONFLICT = 14
+    LENGTH = 15
     REPLAY = 16
 
 
@@ -74,7 +78,10 @@ E = TypeVar("E")
 
 
 class System(ABC, Generic[S, E]):
-    """A transition system whose states (S) and steps (E) are written as bytes."""
+    """A transition system whose states (S) and steps (E) are written as bytes.
+
+    Two steps are equal exactly where their bytes are.
+    """
 
     @abstractmethod
     def state(self, data: bytes) -> S:
@@ -93,8 +100,24 @@ class System(ABC, Generic[S, E]):
         """The state after the step; refuses with IMPOSSIBLE."""
 
     @abstractmethod
-    def encode(self, state: S) -> bytes:
+    def encode_state(self, state: S) -> bytes:
         """The bytes of the state."""
+
+    @abstractmethod
+    def encode_step(self, step: E) -> bytes:
+        """The bytes of the step."""
+
+    @abstractmethod
+    def independent(self, one: E, other: E) -> bool:
+        """Whether the two can be exchanged; no step is independent of itself."""
+
+    @abstractmethod
+    def residual(self, step: E, after: E) -> E:
+        """What is left of a step after one that is independent of it."""
+
+    @abstractmethod
+    def back(self, first: E, second: E) -> E | None:
+        """The step, independent of the first, of which the second is left after it; None where there is none."""
 
 
 Marking = frozenset[int]
@@ -140,8 +163,12 @@ class Event:
     def is_possible(self, marking: Marking) -> bool:
         return self.before <= marking and self.after.isdisjoint(marking)
 
+    @property
+    def conditions(self) -> Marking:
+        return self.before | self.after
 
-class Net(System[Marking, Event]):
+
+class Net(System[Marking, int]):
     """A condition/event net; a step is the number of its event."""
 
     def __init__(self, events: Sequence[Event] = ()) -> None:
@@ -152,23 +179,56 @@ class Net(System[Marking, Event]):
             raise Refusal(Number.STATE, Layer.SYSTEM, min(len(data), SET_BYTES))
         return decode_set(data)
 
-    def step(self, data: bytes) -> Event:
+    def step(self, data: bytes) -> int:
         if not data or data[0] >= len(self.events):
             raise Refusal(Number.STEP, Layer.SYSTEM, 0)
         if len(data) > 1:
             raise Refusal(Number.STEP, Layer.SYSTEM, 1)
-        return self.events[data[0]]
+        return data[0]
 
-    def label(self, step: Event) -> int:
-        return step.action
+    def label(self, step: int) -> int:
+        return self.events[step].action
 
-    def next(self, state: Marking, step: Event) -> Marking:
-        if not step.is_possible(state):
+    def next(self, state: Marking, step: int) -> Marking:
+        event = self.events[step]
+        if not event.is_possible(state):
             raise Refusal(Number.IMPOSSIBLE, Layer.SYSTEM, 0)
-        return (state - step.before) | step.after
+        return (state - event.before) | event.after
 
-    def encode(self, state: Marking) -> bytes:
+    def encode_state(self, state: Marking) -> bytes:
         return encode_set(state)
+
+    def encode_step(self, step: int) -> bytes:
+        return bytes([step])
+
+    def independent(self, one: int, other: int) -> bool:
+        return self.events[one].conditions.isdisjoint(self.events[other].conditions)
+
+    def residual(self, step: int, after: int) -> int:
+        return step
+
+    def back(self, first: int, second: int) -> int | None:
+        return second if self.independent(first, second) else None
+
+
+# Joining
+
+
+class Conflict(Exception):
+    """Two steps that are neither equal nor independent."""
+
+
+def carry(system: System[S, E], step: E, run: list[E]) -> tuple[list[E], list[E]]:
+    """What is left of a step after a run, in a list of one or none, and what is left of the run after the step."""
+    passed: list[E] = []
+    for place, met in enumerate(run):
+        if step == met:
+            return [], passed + run[place + 1 :]
+        if not system.independent(step, met):
+            raise Conflict
+        step, met = system.residual(step, met), system.residual(met, step)
+        passed.append(met)
+    return [step], passed
 
 
 # The bench
@@ -215,10 +275,10 @@ class Bench(Generic[S, E]):
         self.system = system
         self.sheets = [Sheet() for _ in range(SHEETS)]
 
-    def sheet(self, number: int, *standings: Standing) -> Sheet:
-        """The numbered sheet, if its standing is one of those given."""
+    def sheet(self, number: int, *standings: Standing, place: int = 1) -> Sheet:
+        """The numbered sheet, if its standing is one of those given; place is that of the number in the frame."""
         if number >= SHEETS or self.sheets[number].standing not in standings:
-            raise Refusal(Number.SHEET, Layer.BENCH, 1)
+            raise Refusal(Number.SHEET, Layer.BENCH, place)
         return self.sheets[number]
 
     def replay(self, sheet: Sheet) -> Run[S, E]:
@@ -249,16 +309,56 @@ class Bench(Generic[S, E]):
             raise Refusal(Number.FULL, Layer.BENCH, MOST_STEPS)
         end = self.system.next(run.end, self.system.step(data))
         sheet.steps.append(data)
-        return self.system.encode(end)
+        return self.system.encode_state(end)
+
+    def swap(self, number: int, place: int) -> None:
+        """Exchanges the step with this place, from 1, and the one behind it."""
+        sheet = self.sheet(number, Standing.OPEN)
+        run = self.replay(sheet)
+        if place == 0 or place + 1 > len(sheet.steps):
+            raise Refusal(Number.ABSENT, Layer.BENCH, place)
+        first, second = run.steps[place - 1 : place + 1]
+        moved = self.system.back(first, second)
+        if moved is None:
+            raise Refusal(Number.DEPENDENT, Layer.BENCH, place)
+        exchanged = [moved, self.system.residual(first, moved)]
+        sheet.steps[place - 1 : place + 1] = [self.system.encode_step(step) for step in exchanged]
 
     def withdraw(self, number: int) -> bytes:
         """Takes the last step away and returns the end state that is left."""
         sheet = self.sheet(number, Standing.OPEN)
         run = self.replay(sheet)
         if not sheet.steps:
-            raise Refusal(Number.EMPTY, Layer.BENCH, 0)
+            raise Refusal(Number.ABSENT, Layer.BENCH, 0)
         sheet.steps.pop()
-        return self.system.encode(run.states[-2])
+        return self.system.encode_state(run.states[-2])
+
+    def join(self, number: int, other_number: int) -> tuple[int, int]:
+        """Joins another sheet into a sheet; returns the new length and the number of shared steps."""
+        sheet = self.sheet(number, Standing.OPEN)
+        other = self.sheet(other_number, Standing.OPEN, Standing.RELEASED, place=2)
+        run = self.replay(sheet)
+        other_run = self.replay(other)
+        if sheet.start != other.start:
+            raise Refusal(Number.STARTS, Layer.BENCH, 0)
+        survivors = self.carry_all(other_run.steps, run.steps)
+        length = len(run.steps) + len(survivors)
+        if length > MOST_STEPS:
+            raise Refusal(Number.LENGTH, Layer.BENCH, length)
+        shared = len(run.steps) + len(other_run.steps) - length
+        sheet.steps = sheet.steps + [self.system.encode_step(step) for step in survivors]
+        return length, shared
+
+    def carry_all(self, steps: list[E], run: list[E]) -> list[E]:
+        """What is left of the steps, each carried through what the earlier ones left of the run."""
+        survivors: list[E] = []
+        for place, step in enumerate(steps, start=1):
+            try:
+                left, run = carry(self.system, step, run)
+            except Conflict:
+                raise Refusal(Number.CONFLICT, Layer.BENCH, place) from None
+            survivors += left
+        return survivors
 
     def release(self, number: int) -> None:
         sheet = self.sheet(number, Standing.OPEN)
@@ -275,7 +375,7 @@ class Bench(Generic[S, E]):
         run = self.replay(sheet)
         labels = [self.system.label(step) for step in run.steps]
         steps = list(zip(labels, sheet.steps))
-        return Printout(sheet.start, steps, self.system.encode(run.end))
+        return Printout(sheet.start, steps, self.system.encode_state(run.end))
 
 
 # Frames
@@ -345,11 +445,11 @@ class Reader:
         if self.place < len(self.frame):
             raise frame_refusal(self.place)
 
-    def only_byte(self) -> int:
-        """The one byte that is left."""
-        byte = self.byte()
+    def last(self, count: int) -> bytes:
+        """The bytes that are left, which are just so many."""
+        taken = self.take(count)
         self.finish()
-        return byte
+        return taken
 
 
 def read_setup(reader: Reader) -> Net:
@@ -411,16 +511,21 @@ class Server:
             case 0xB1:
                 number, step = reader.byte(), reader.rest()
                 return [DONE + bench.add(number, step)]
+            case 0xB2:
+                bench.swap(*reader.last(2))
+                return [DONE]
             case 0xB3:
-                return [DONE + bench.withdraw(reader.only_byte())]
+                return [DONE + bench.withdraw(*reader.last(1))]
+            case 0xB4:
+                return [DONE + bytes(bench.join(*reader.last(2)))]
             case 0xB5:
-                bench.release(reader.only_byte())
+                bench.release(*reader.last(1))
                 return [DONE]
             case 0xB6:
-                bench.reopen(reader.only_byte())
+                bench.reopen(*reader.last(1))
                 return [DONE]
             case 0xB7:
-                return print_lines(bench.print(reader.only_byte()))
+                return print_lines(bench.print(*reader.last(1)))
             case _:
                 raise frame_refusal(0)
 

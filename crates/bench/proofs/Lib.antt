@@ -6,3 +6,4 @@ pub mod Swapping
 pub mod Joining
 pub mod Tabled
 pub mod Printing
+pub mod Silent

@@ -6,8 +6,8 @@ use Rattle.std.proofs.lemmas.Bool.{le-leb, eq-eqb, cond_both, leb-true, leb-fals
 use Rattle.frame.specs.declared.fault.FrameFault.{FrameFault}
 use Rattle.frame.specs.declared.fault.FrameFault.TheVariants.{Malformed, BadSetup}
 use Rattle.frame.specs.Frames.{FrameView, setup_bytes, bytes_of, LaidOut, WithinRules, Accepted, Begins, frame_limit, event_limit}
-use Rattle.frame.specs.Frames.FrameView.{setup, open_sheet, add, withdraw, release, reopen, print}
-use Rattle.frame.specs.Reading.{Layout, layout_told, rules_told, parts_told, setup_told, sheet_rest_told, sheet_told, bytes_told, frame_told}
+use Rattle.frame.specs.Frames.FrameView.{setup, open_sheet, add, swap, withdraw, join, release, reopen, print}
+use Rattle.frame.specs.Reading.{Layout, layout_told, rules_told, parts_told, setup_told, sheet_rest_told, sheet_told, sheet_byte_told, bytes_told, frame_told}
 use Rattle.frame.specs.Format.{ReadsFrames, MalformedAt, PlacesMalformed, BadAt, PlacesBadSetups}
 use Rattle.frame.specs.Format.BadAt.{kind, pairs, names, events}
 use Rattle.frame.proofs.Calls.{within_told}
@@ -19,7 +19,9 @@ long : (f : FrameView) → 2 ≤ length (bytes_of f)
 long (setup ps ns es) = omega arith
 long (open_sheet sheet state) = omega arith
 long (add sheet step) = omega arith
+long (swap sheet place) = omega arith
 long (withdraw sheet) = omega arith
+long (join sheet other) = omega arith
 long (release sheet) = omega arith
 long (reopen sheet) = omega arith
 long (print sheet) = omega arith
@@ -29,7 +31,9 @@ record Unknown (call : ℕ) : Type 0 where
   not_setup : call ≡ 0xA0 → ⊥
   not_open : call ≡ 0xB0 → ⊥
   not_add : call ≡ 0xB1 → ⊥
+  not_swap : call ≡ 0xB2 → ⊥
   not_withdraw : call ≡ 0xB3 → ⊥
+  not_join : call ≡ 0xB4 → ⊥
   not_release : call ≡ 0xB5 → ⊥
   not_reopen : call ≡ 0xB6 → ⊥
   not_print : call ≡ 0xB7 → ⊥
@@ -38,20 +42,27 @@ named : (call : ℕ) → Unknown call → (f : FrameView) (t : List ℕ) → byt
 named call u (setup ps ns es) t e = u.not_setup (sym (ap (λ s. get_or s 0 0) e))
 named call u (open_sheet sheet state) t e = u.not_open (sym (ap (λ s. get_or s 0 0) e))
 named call u (add sheet step) t e = u.not_add (sym (ap (λ s. get_or s 0 0) e))
+named call u (swap sheet place) t e = u.not_swap (sym (ap (λ s. get_or s 0 0) e))
 named call u (withdraw sheet) t e = u.not_withdraw (sym (ap (λ s. get_or s 0 0) e))
+named call u (join sheet other) t e = u.not_join (sym (ap (λ s. get_or s 0 0) e))
 named call u (release sheet) t e = u.not_release (sym (ap (λ s. get_or s 0 0) e))
 named call u (reopen sheet) t e = u.not_reopen (sym (ap (λ s. get_or s 0 0) e))
 named call u (print sheet) t e = u.not_print (sym (ap (λ s. get_or s 0 0) e))
 
--- a call that is no setup and takes no rest has two bytes
-two_bytes : (call : ℕ) → 0xB1 < call → (f : FrameView) (t : List ℕ) → bytes_of f ≡ call ∷ t → length (bytes_of f) ≡ 2
-two_bytes call h (setup ps ns es) t e = absurd (omega (arith, ap (λ s. get_or s 0 0) e))
-two_bytes call h (open_sheet sheet state) t e = absurd (omega (arith, ap (λ s. get_or s 0 0) e))
-two_bytes call h (add sheet step) t e = absurd (omega (arith, ap (λ s. get_or s 0 0) e))
-two_bytes call h (withdraw sheet) t e = refl
-two_bytes call h (release sheet) t e = refl
-two_bytes call h (reopen sheet) t e = refl
-two_bytes call h (print sheet) t e = refl
+-- a call that is no setup and takes no rest has a sheet alone, or one byte more
+abbrev size : ℕ → ℕ
+size call = cond (eqb call 0xB2) 3 (cond (eqb call 0xB4) 3 2)
+
+sized : (call : ℕ) → 0xB1 < call → (f : FrameView) (t : List ℕ) → bytes_of f ≡ call ∷ t → length (bytes_of f) ≡ size call
+sized call h (setup ps ns es) t e = absurd (omega (arith, ap (λ s. get_or s 0 0) e))
+sized call h (open_sheet sheet state) t e = absurd (omega (arith, ap (λ s. get_or s 0 0) e))
+sized call h (add sheet step) t e = absurd (omega (arith, ap (λ s. get_or s 0 0) e))
+sized call h (swap sheet place) t e = ap (λ s. size (get_or s 0 0)) e
+sized call h (withdraw sheet) t e = ap (λ s. size (get_or s 0 0)) e
+sized call h (join sheet other) t e = ap (λ s. size (get_or s 0 0)) e
+sized call h (release sheet) t e = ap (λ s. size (get_or s 0 0)) e
+sized call h (reopen sheet) t e = ap (λ s. size (get_or s 0 0)) e
+sized call h (print sheet) t e = ap (λ s. size (get_or s 0 0)) e
 
 -- what an answer says of the bytes that were read
 abbrev Right : List ℕ → Result FrameView FrameFault → Type 0
@@ -88,7 +99,7 @@ lone_right call b = record {
   no_frame = λ f l e. absurd (omega (arith, long f, ap length e));
 }
 
--- a call with a rest, and a call with none
+-- a call with a rest
 open_right : (rest : List ℕ) → Right (0xB0 ∷ rest) (sheet_rest_told open_sheet rest)
 open_right [] = lone_right 0xB0 (open_sheet 0 [], 0 ∷ [], tt, refl)
 open_right (sheet ∷ state) = (refl, tt, tt)
@@ -97,39 +108,56 @@ add_right : (rest : List ℕ) → Right (0xB1 ∷ rest) (sheet_rest_told add res
 add_right [] = lone_right 0xB1 (add 0 [], 0 ∷ [], tt, refl)
 add_right (sheet ∷ step) = (refl, tt, tt)
 
-extra_right : (call sheet x : ℕ) (rest : List ℕ) → 0xB1 < call → Begins (call ∷ sheet ∷ []) → MalformedAt (call ∷ sheet ∷ x ∷ rest) 2
-extra_right call sheet x rest h b = record {
+-- a call of a fixed size: too few bytes, and too many
+missing_right : (call n : ℕ) (s : List ℕ) → 0xB1 < call → size call ≡ n → length (call ∷ s) < n → Begins (call ∷ s) → MalformedAt (call ∷ s) (length (call ∷ s))
+missing_right call n s h is few b = record {
+  within = omega arith;
+  begins = subst Begins (sym (take_all (length (call ∷ s)) (call ∷ s) (omega arith))) b;
+  longest = λ n h k b. absurd (omega arith);
+  no_frame = λ f l e. absurd (omega (arith, sized call h f s e, ap length e));
+}
+
+extra_right : (call n : ℕ) (s : List ℕ) → 0xB1 < call → size call ≡ n → n < length (call ∷ s) → Begins (take n (call ∷ s)) → MalformedAt (call ∷ s) n
+extra_right call n s h is many b = record {
   within = omega arith;
   begins = b;
   longest = longer;
-  no_frame = λ f l e. absurd (omega (arith, two_bytes call h f (sheet ∷ x ∷ rest) e, ap length e));
+  no_frame = λ f l e. absurd (omega (arith, sized call h f s e, ap length e));
 }
   where
-    longer : (n : ℕ) → 2 < n → n ≤ length (call ∷ sheet ∷ x ∷ rest) → Begins (take n (call ∷ sheet ∷ x ∷ rest)) → ⊥
-    longer zero k m b = absurd (omega arith)
-    longer (suc zero) k m b = absurd (omega arith)
-    longer (suc (suc zero)) k m b = absurd (omega arith)
-    longer (suc (suc (suc n))) k m (f, more, l, e) = absurd (omega (arith, two_bytes call h f (sheet ∷ x ∷ (take n rest ++ more)) e, ap length e))
+    longer : (m : ℕ) → n < m → m ≤ length (call ∷ s) → Begins (take m (call ∷ s)) → ⊥
+    longer zero k w b = absurd (omega arith)
+    longer (suc m) k w (f, more, l, e) = absurd (omega (arith, sized call h f (take m s ++ more) e, ap length e, length-append (take m s) more, length-take m s))
+
+-- a call with a sheet alone, and one with a sheet and one byte more
+sheet_right : (call : ℕ) (frame : ℕ → FrameView) → 0xB1 < call → size call ≡ 2 → ((sheet : ℕ) → Right (call ∷ sheet ∷ []) (Ok (frame sheet))) → (rest : List ℕ) → Right (call ∷ rest) (sheet_told frame rest)
+sheet_right call frame h is r [] = missing_right call 2 [] h is (omega arith) (frame 0, 0 ∷ [], (r 0).1, (r 0).0)
+sheet_right call frame h is r (sheet ∷ []) = r sheet
+sheet_right call frame h is r (sheet ∷ x ∷ rest) = extra_right call 2 (sheet ∷ x ∷ rest) h is (omega arith) (frame sheet, [], (r sheet).1, (r sheet).0)
+
+sheet_byte_right : (call : ℕ) (frame : ℕ → ℕ → FrameView) → 0xB1 < call → size call ≡ 3 → ((sheet byte : ℕ) → Right (call ∷ sheet ∷ byte ∷ []) (Ok (frame sheet byte))) → (rest : List ℕ) → Right (call ∷ rest) (sheet_byte_told frame rest)
+sheet_byte_right call frame h is r [] = missing_right call 3 [] h is (omega arith) (frame 0 0, 0 ∷ 0 ∷ [], (r 0 0).1, (r 0 0).0)
+sheet_byte_right call frame h is r (sheet ∷ []) = missing_right call 3 (sheet ∷ []) h is (omega arith) (frame sheet 0, 0 ∷ [], (r sheet 0).1, (r sheet 0).0)
+sheet_byte_right call frame h is r (sheet ∷ byte ∷ []) = r sheet byte
+sheet_byte_right call frame h is r (sheet ∷ byte ∷ x ∷ rest) = extra_right call 3 (sheet ∷ byte ∷ x ∷ rest) h is (omega arith) (frame sheet byte, [], (r sheet byte).1, (r sheet byte).0)
+
+swap_right : (rest : List ℕ) → Right (0xB2 ∷ rest) (sheet_byte_told swap rest)
+swap_right = sheet_byte_right 0xB2 swap (omega arith) refl (λ sheet place. (refl, tt, tt))
 
 withdraw_right : (rest : List ℕ) → Right (0xB3 ∷ rest) (sheet_told withdraw rest)
-withdraw_right [] = lone_right 0xB3 (withdraw 0, 0 ∷ [], tt, refl)
-withdraw_right (sheet ∷ []) = (refl, tt, tt)
-withdraw_right (sheet ∷ x ∷ rest) = extra_right 0xB3 sheet x rest (omega arith) (withdraw sheet, [], tt, refl)
+withdraw_right = sheet_right 0xB3 withdraw (omega arith) refl (λ sheet. (refl, tt, tt))
+
+join_right : (rest : List ℕ) → Right (0xB4 ∷ rest) (sheet_byte_told join rest)
+join_right = sheet_byte_right 0xB4 join (omega arith) refl (λ sheet other. (refl, tt, tt))
 
 release_right : (rest : List ℕ) → Right (0xB5 ∷ rest) (sheet_told release rest)
-release_right [] = lone_right 0xB5 (release 0, 0 ∷ [], tt, refl)
-release_right (sheet ∷ []) = (refl, tt, tt)
-release_right (sheet ∷ x ∷ rest) = extra_right 0xB5 sheet x rest (omega arith) (release sheet, [], tt, refl)
+release_right = sheet_right 0xB5 release (omega arith) refl (λ sheet. (refl, tt, tt))
 
 reopen_right : (rest : List ℕ) → Right (0xB6 ∷ rest) (sheet_told reopen rest)
-reopen_right [] = lone_right 0xB6 (reopen 0, 0 ∷ [], tt, refl)
-reopen_right (sheet ∷ []) = (refl, tt, tt)
-reopen_right (sheet ∷ x ∷ rest) = extra_right 0xB6 sheet x rest (omega arith) (reopen sheet, [], tt, refl)
+reopen_right = sheet_right 0xB6 reopen (omega arith) refl (λ sheet. (refl, tt, tt))
 
 print_right : (rest : List ℕ) → Right (0xB7 ∷ rest) (sheet_told print rest)
-print_right [] = lone_right 0xB7 (print 0, 0 ∷ [], tt, refl)
-print_right (sheet ∷ []) = (refl, tt, tt)
-print_right (sheet ∷ x ∷ rest) = extra_right 0xB7 sheet x rest (omega arith) (print sheet, [], tt, refl)
+print_right = sheet_right 0xB7 print (omega arith) refl (λ sheet. (refl, tt, tt))
 
 -- setups
 
@@ -217,19 +245,23 @@ bytes_right (call ∷ rest) =
     cond_both (eqb call 0xA0) _ _ (Right (call ∷ rest)) (λ is. at_call call 0xA0 rest (setup_told rest) is (setup_right rest)) (λ n0.
     cond_both (eqb call 0xB0) _ _ (Right (call ∷ rest)) (λ is. at_call call 0xB0 rest (sheet_rest_told open_sheet rest) is (open_right rest)) (λ n1.
     cond_both (eqb call 0xB1) _ _ (Right (call ∷ rest)) (λ is. at_call call 0xB1 rest (sheet_rest_told add rest) is (add_right rest)) (λ n2.
-    cond_both (eqb call 0xB3) _ _ (Right (call ∷ rest)) (λ is. at_call call 0xB3 rest (sheet_told withdraw rest) is (withdraw_right rest)) (λ n3.
-    cond_both (eqb call 0xB5) _ _ (Right (call ∷ rest)) (λ is. at_call call 0xB5 rest (sheet_told release rest) is (release_right rest)) (λ n4.
-    cond_both (eqb call 0xB6) _ _ (Right (call ∷ rest)) (λ is. at_call call 0xB6 rest (sheet_told reopen rest) is (reopen_right rest)) (λ n5.
-    cond_both (eqb call 0xB7) _ _ (Right (call ∷ rest)) (λ is. at_call call 0xB7 rest (sheet_told print rest) is (print_right rest)) (λ n6.
+    cond_both (eqb call 0xB2) _ _ (Right (call ∷ rest)) (λ is. at_call call 0xB2 rest (sheet_byte_told swap rest) is (swap_right rest)) (λ n3.
+    cond_both (eqb call 0xB3) _ _ (Right (call ∷ rest)) (λ is. at_call call 0xB3 rest (sheet_told withdraw rest) is (withdraw_right rest)) (λ n4.
+    cond_both (eqb call 0xB4) _ _ (Right (call ∷ rest)) (λ is. at_call call 0xB4 rest (sheet_byte_told join rest) is (join_right rest)) (λ n5.
+    cond_both (eqb call 0xB5) _ _ (Right (call ∷ rest)) (λ is. at_call call 0xB5 rest (sheet_told release rest) is (release_right rest)) (λ n6.
+    cond_both (eqb call 0xB6) _ _ (Right (call ∷ rest)) (λ is. at_call call 0xB6 rest (sheet_told reopen rest) is (reopen_right rest)) (λ n7.
+    cond_both (eqb call 0xB7) _ _ (Right (call ∷ rest)) (λ is. at_call call 0xB7 rest (sheet_told print rest) is (print_right rest)) (λ n8.
     unknown_right call rest (record {
       not_setup = eqb-false call 0xA0 n0;
       not_open = eqb-false call 0xB0 n1;
       not_add = eqb-false call 0xB1 n2;
-      not_withdraw = eqb-false call 0xB3 n3;
-      not_release = eqb-false call 0xB5 n4;
-      not_reopen = eqb-false call 0xB6 n5;
-      not_print = eqb-false call 0xB7 n6;
-    }))))))))
+      not_swap = eqb-false call 0xB2 n3;
+      not_withdraw = eqb-false call 0xB3 n4;
+      not_join = eqb-false call 0xB4 n5;
+      not_release = eqb-false call 0xB5 n6;
+      not_reopen = eqb-false call 0xB6 n7;
+      not_print = eqb-false call 0xB7 n8;
+    }))))))))))
 
 -- the bytes of an accepted frame are read as that frame
 accepted_read : (f : FrameView) → LaidOut f → WithinRules f → bytes_told (bytes_of f) ≡ Ok f
@@ -242,7 +274,9 @@ accepted_read (setup ps ns es) l (p, n, few) =
     ap (parts_told (length (setup_bytes ps ns es) + 2)) built ∙ ruled
 accepted_read (open_sheet sheet state) l r = refl
 accepted_read (add sheet step) l r = refl
+accepted_read (swap sheet place) l r = refl
 accepted_read (withdraw sheet) l r = refl
+accepted_read (join sheet other) l r = refl
 accepted_read (release sheet) l r = refl
 accepted_read (reopen sheet) l r = refl
 accepted_read (print sheet) l r = refl

@@ -4,7 +4,7 @@ use Rattle.std.proofs.lemmas.List.{append_assoc, append-nil, take_at, drop_at, t
 use Rattle.std.proofs.lemmas.Option.{none-some, same_Some}
 use Rattle.std.proofs.lemmas.Bool.{le-leb, leb-true, leb-false}
 use Rattle.frame.specs.Frames.{FrameView, counted, setup_bytes, bytes_of, Whole, LaidOut}
-use Rattle.frame.specs.Frames.FrameView.{setup, open_sheet, add, withdraw, release, reopen, print}
+use Rattle.frame.specs.Frames.FrameView.{setup, open_sheet, add, swap, withdraw, join, release, reopen, print}
 use Rattle.frame.specs.Reading.{part_told, Layout, with_events, with_names, with_pairs, layout_told}
 
 -- parts
@@ -108,7 +108,9 @@ has_layout (setup ps ns es) s l e =
     (laid ps ns es [], ap layout_told (sym (ap (drop 2) e) ∙ sym (append-nil (setup_bytes ps ns es))) ∙ layout_built ps ns es [] l, refl)
 has_layout (open_sheet sheet state) s l e = absurd (omega (arith, ap (λ t. get_or t 0 0) e))
 has_layout (add sheet step) s l e = absurd (omega (arith, ap (λ t. get_or t 0 0) e))
+has_layout (swap sheet place) s l e = absurd (omega (arith, ap (λ t. get_or t 0 0) e))
 has_layout (withdraw sheet) s l e = absurd (omega (arith, ap (λ t. get_or t 0 0) e))
+has_layout (join sheet other) s l e = absurd (omega (arith, ap (λ t. get_or t 0 0) e))
 has_layout (release sheet) s l e = absurd (omega (arith, ap (λ t. get_or t 0 0) e))
 has_layout (reopen sheet) s l e = absurd (omega (arith, ap (λ t. get_or t 0 0) e))
 has_layout (print sheet) s l e = absurd (omega (arith, ap (λ t. get_or t 0 0) e))

@@ -7,7 +7,9 @@ pub data FrameView : Type 0 where
   setup : (pairs names events : List ℕ) → FrameView
   open_sheet : (sheet : ℕ) (state : List ℕ) → FrameView
   add : (sheet : ℕ) (step : List ℕ) → FrameView
+  swap : (sheet place : ℕ) → FrameView
   withdraw : (sheet : ℕ) → FrameView
+  join : (sheet other : ℕ) → FrameView
   release : (sheet : ℕ) → FrameView
   reopen : (sheet : ℕ) → FrameView
   print : (sheet : ℕ) → FrameView
@@ -24,7 +26,9 @@ abbrev pub bytes_of : FrameView → List ℕ
 bytes_of (setup pairs names events) = 0xA0 ∷ 0x02 ∷ setup_bytes pairs names events
 bytes_of (open_sheet sheet state) = 0xB0 ∷ sheet ∷ state
 bytes_of (add sheet step) = 0xB1 ∷ sheet ∷ step
+bytes_of (swap sheet place) = 0xB2 ∷ sheet ∷ place ∷ []
 bytes_of (withdraw sheet) = 0xB3 ∷ sheet ∷ []
+bytes_of (join sheet other) = 0xB4 ∷ sheet ∷ other ∷ []
 bytes_of (release sheet) = 0xB5 ∷ sheet ∷ []
 bytes_of (reopen sheet) = 0xB6 ∷ sheet ∷ []
 bytes_of (print sheet) = 0xB7 ∷ sheet ∷ []
@@ -38,7 +42,9 @@ abbrev pub LaidOut : FrameView → Type 0
 LaidOut (setup pairs names events) = Whole 2 pairs × Whole 17 events
 LaidOut (open_sheet sheet state) = Unit {0}
 LaidOut (add sheet step) = Unit {0}
+LaidOut (swap sheet place) = Unit {0}
 LaidOut (withdraw sheet) = Unit {0}
+LaidOut (join sheet other) = Unit {0}
 LaidOut (release sheet) = Unit {0}
 LaidOut (reopen sheet) = Unit {0}
 LaidOut (print sheet) = Unit {0}
@@ -52,7 +58,9 @@ abbrev pub WithinRules : FrameView → Type 0
 WithinRules (setup pairs names events) = (pairs ≡ []) × (names ≡ []) × (length events ≤ 17 * event_limit)
 WithinRules (open_sheet sheet state) = Unit {0}
 WithinRules (add sheet step) = Unit {0}
+WithinRules (swap sheet place) = Unit {0}
 WithinRules (withdraw sheet) = Unit {0}
+WithinRules (join sheet other) = Unit {0}
 WithinRules (release sheet) = Unit {0}
 WithinRules (reopen sheet) = Unit {0}
 WithinRules (print sheet) = Unit {0}

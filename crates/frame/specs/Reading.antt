@@ -7,7 +7,7 @@ use Rattle.frame.specs.declared.setup.Setup.{Setup}
 use Rattle.frame.specs.declared.frame.Frame.{Frame}
 use Rattle.frame.specs.declared.frame.Frame.TheVariants as variant
 use Rattle.frame.specs.Frames.{FrameView, frame_limit, event_limit}
-use Rattle.frame.specs.Frames.FrameView.{setup, open_sheet, add, withdraw, release, reopen, print}
+use Rattle.frame.specs.Frames.FrameView.{setup, open_sheet, add, swap, withdraw, join, release, reopen, print}
 
 -- what a frame that was read holds
 abbrev pub setup_view : Setup → FrameView
@@ -17,7 +17,9 @@ abbrev pub frame_view : Frame → FrameView
 frame_view (variant.Setup s) = setup_view s
 frame_view (variant.Open sheet state) = open_sheet sheet state.now
 frame_view (variant.Add sheet step) = add sheet step.now
+frame_view (variant.Swap sheet place) = swap sheet place
 frame_view (variant.Withdraw sheet) = withdraw sheet
+frame_view (variant.Join sheet other) = join sheet other
 frame_view (variant.Release sheet) = release sheet
 frame_view (variant.Reopen sheet) = reopen sheet
 frame_view (variant.Print sheet) = print sheet
@@ -80,7 +82,7 @@ abbrev pub setup_told : List ℕ → Result FrameView FrameFault
 setup_told [] = Err (Malformed 1)
 setup_told (kind ∷ s) = cond (kind == 2) (parts_told (length s + 2) (layout_told s)) (Err (BadSetup 1))
 
--- a sheet and the rest of the frame; a sheet alone
+-- a sheet and the rest of the frame; a sheet alone; a sheet and one byte more
 abbrev pub sheet_rest_told : (ℕ → List ℕ → FrameView) → List ℕ → Result FrameView FrameFault
 sheet_rest_told call [] = Err (Malformed 1)
 sheet_rest_told call (sheet ∷ rest) = Ok (call sheet rest)
@@ -90,16 +92,24 @@ sheet_told call [] = Err (Malformed 1)
 sheet_told call (sheet ∷ []) = Ok (call sheet)
 sheet_told call (sheet ∷ extra ∷ rest) = Err (Malformed 2)
 
+abbrev pub sheet_byte_told : {A : Type 0} → (ℕ → ℕ → A) → List ℕ → Result A FrameFault
+sheet_byte_told call [] = Err (Malformed 1)
+sheet_byte_told call (sheet ∷ []) = Err (Malformed 2)
+sheet_byte_told call (sheet ∷ byte ∷ []) = Ok (call sheet byte)
+sheet_byte_told call (sheet ∷ byte ∷ extra ∷ rest) = Err (Malformed 3)
+
 abbrev pub call_told : ℕ → List ℕ → Result FrameView FrameFault
 call_told call rest =
     cond (call == 0xA0) (setup_told rest)
     (cond (call == 0xB0) (sheet_rest_told open_sheet rest)
     (cond (call == 0xB1) (sheet_rest_told add rest)
+    (cond (call == 0xB2) (sheet_byte_told swap rest)
     (cond (call == 0xB3) (sheet_told withdraw rest)
+    (cond (call == 0xB4) (sheet_byte_told join rest)
     (cond (call == 0xB5) (sheet_told release rest)
     (cond (call == 0xB6) (sheet_told reopen rest)
     (cond (call == 0xB7) (sheet_told print rest)
-    (Err (Malformed 0))))))))
+    (Err (Malformed 0))))))))))
 
 abbrev pub bytes_told : List ℕ → Result FrameView FrameFault
 bytes_told [] = Err (Malformed 0)

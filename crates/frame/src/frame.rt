@@ -1,6 +1,6 @@
 // Frames and the calls that they name.
 ghost use Rattle.std.specs.Prelude.{◌≡◌, ◌<◌, length};
-ghost use Rattle.frame.specs.Reading.{frame_told, call_told, frame_view, viewed, sheet_told};
+ghost use Rattle.frame.specs.Reading.{frame_told, call_told, frame_view, viewed, sheet_told, sheet_byte_told};
 ghost use Rattle.frame.specs.Format.{ReadsFrames, PlacesMalformed, PlacesBadSetups};
 
 use crate::fault::FrameFault;
@@ -12,7 +12,9 @@ pub enum Frame<'a> {
     Setup(Setup<'a>),
     Open { sheet: u8, state: &'a [u8] },
     Add { sheet: u8, step: &'a [u8] },
+    Swap { sheet: u8, place: u8 },
     Withdraw { sheet: u8 },
+    Join { sheet: u8, other: u8 },
     Release { sheet: u8 },
     Reopen { sheet: u8 },
     Print { sheet: u8 },
@@ -62,9 +64,17 @@ fn read_call(call: u8, rest: &[u8]) -> Result<Frame<'_>, FrameFault>
                 step,
             }
         }
+        0xB2 => {
+            let (sheet, place) = with_byte(rest)?;
+            Frame::Swap { sheet, place }
+        }
         0xB3 => Frame::Withdraw {
             sheet: alone(rest)?,
         },
+        0xB4 => {
+            let (sheet, other) = with_byte(rest)?;
+            Frame::Join { sheet, other }
+        }
         0xB5 => Frame::Release {
             sheet: alone(rest)?,
         },
@@ -87,5 +97,17 @@ fn alone(rest: &[u8]) -> Result<u8, FrameFault>
         [] => Err(FrameFault::Malformed(1)),
         [sheet] => Ok(*sheet),
         _ => Err(FrameFault::Malformed(2)),
+    }
+}
+
+// The sheet of a call that names one byte more, and that byte.
+fn with_byte(rest: &[u8]) -> Result<(u8, u8), FrameFault>
+    ensures { result ≡ sheet_byte_told (λ sheet byte. (sheet, byte)) rest.now }
+{
+    match rest {
+        [] => Err(FrameFault::Malformed(1)),
+        [_] => Err(FrameFault::Malformed(2)),
+        [sheet, byte] => Ok((*sheet, *byte)),
+        _ => Err(FrameFault::Malformed(3)),
     }
 }

@@ -3,20 +3,22 @@ use Rattle.std.specs.Prelude.{ℕ, cond, List, [], ◌∷◌, length, Some, None
 use Rattle.byte_strings.specs.Buffer.{Str, over}
 use Rattle.hexadecimal.specs.Hex.{read_told}
 use Rattle.hexadecimal.specs.Line.{line}
-use Rattle.steps.specs.Meaning.{Transitions}
+use Rattle.steps.specs.Meaning.{Transitions, Independence}
 use Rattle.nets.specs.declared.event.Event.{Event}
 use Rattle.nets.specs.declared.net.Net.{Net}
 use Rattle.nets.specs.Contents.{events_of}
-use Rattle.nets.specs.System.{net_transitions}
+use Rattle.nets.specs.System.{net_transitions, net_independence}
 use Rattle.bench.specs.Page.{Page}
 use Rattle.bench.specs.Calls.{Outcome, answered, opened, added, withdrawn, released, reopened}
+use Rattle.bench.specs.Swap.{swapped}
+use Rattle.bench.specs.Join.{joined}
 use Rattle.bench.specs.Print.{printed}
-use Rattle.bench.specs.Table.{pages_of, on_sheet, pages_after}
+use Rattle.bench.specs.Table.{pages_of, on_sheet, pages_after, page_at}
 use Rattle.frame.specs.declared.fault.FrameFault.{FrameFault}
 use Rattle.frame.specs.declared.fault.FrameFault.TheVariants.{Malformed}
 use Rattle.frame.specs.Refusals.{frame_refusal}
 use Rattle.frame.specs.Frames.{FrameView}
-use Rattle.frame.specs.Frames.FrameView.{setup, open_sheet, add, withdraw, release, reopen, print}
+use Rattle.frame.specs.Frames.FrameView.{setup, open_sheet, add, swap, withdraw, join, release, reopen, print}
 use Rattle.frame.specs.Reading.{frame_told}
 use Rattle.server.specs.declared.server.Server.{Server}
 use Rattle.server.specs.Text.{refusal_line, call_text, print_text, text_limit}
@@ -57,11 +59,16 @@ print_reply m o = record { text = print_text (answered o); model = m }
 abbrev pub system_of : Model → Transitions
 system_of m = net_transitions m.events
 
+abbrev pub independence_of : Model → Independence
+independence_of m = net_independence m.events
+
 abbrev pub frame_reply : Model → FrameView → Reply
 frame_reply m (setup pairs names events) = setup_reply m (net_told events)
 frame_reply m (open_sheet s state) = sheet_reply m s (on_sheet m.pages s (opened (system_of m) state))
 frame_reply m (add s step) = sheet_reply m s (on_sheet m.pages s (added (system_of m) step 256))
+frame_reply m (swap s place) = sheet_reply m s (on_sheet m.pages s (swapped (system_of m) (independence_of m) place))
 frame_reply m (withdraw s) = sheet_reply m s (on_sheet m.pages s (withdrawn (system_of m) 256))
+frame_reply m (join s e) = sheet_reply m s (on_sheet m.pages s (joined (system_of m) (independence_of m) (page_at m.pages e)))
 frame_reply m (release s) = sheet_reply m s (on_sheet m.pages s (released (system_of m)))
 frame_reply m (reopen s) = sheet_reply m s (on_sheet m.pages s (reopened (system_of m)))
 frame_reply m (print s) = print_reply m (on_sheet m.pages s (printed (system_of m) text_limit))

@@ -33,7 +33,17 @@ impl Server {
                 0
             }
             Frame::Add { sheet, step } => self.bench.add(&self.net, sheet, step, &mut end)?,
+            Frame::Swap { sheet, place } => {
+                self.bench.swap(&self.net, sheet, place)?;
+                0
+            }
             Frame::Withdraw { sheet } => self.bench.withdraw(&self.net, sheet, &mut end)?,
+            Frame::Join { sheet, other } => {
+                let (len, shared) = self.bench.join(&self.net, sheet, other)?;
+                end[0] = len;
+                end[1] = shared;
+                2
+            }
             Frame::Release { sheet } => {
                 self.bench.release(&self.net, sheet)?;
                 0
