@@ -1,0 +1,13 @@
+pub mod Cases
+pub mod After
+pub mod Reading
+pub mod Spelled
+pub mod TermReading
+pub mod ProofReading
+pub mod Beginning
+pub mod Residual
+pub mod Kept
+pub mod Improper
+pub mod Follow
+pub mod System
+pub mod Places

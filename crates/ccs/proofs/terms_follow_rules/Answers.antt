@@ -1,0 +1,5 @@
+use Rattle.ccs.proofs.System.{next_by_rules, misfits_told, labels_shown}
+use Rattle.ccs.proofs.terms_follow_rules.Goals as goal
+
+pub returns : goal.returns
+returns c = record { next = next_by_rules; misfits = misfits_told; labels = labels_shown }

@@ -1,0 +1,38 @@
+-- Which nodes of a proof are improper. Assumes nothing.
+use Rattle.std.specs.Prelude.{◌≡◌, ℕ, suc, ◌+◌, true, false, cond, length, Some, None, Option, nat_eq}
+use Rattle.ccs.specs.Syntax.{Proof}
+use Rattle.ccs.specs.Syntax.Proof.{act, on_left, on_right, both, choose_left, choose_right, under}
+use Rattle.ccs.specs.Action.{name_of, complementary}
+use Rattle.ccs.specs.Label.{label}
+use Rattle.ccs.specs.Spelling.{proof_bytes}
+
+-- The node at this place, from 0, of the proof's bytes is improper: two sides that show no name and its co-name, or a restriction of the name that is shown.
+pub data ImproperAt : Proof → ℕ → Type 0 where
+  apart : {t u : Proof} → complementary (label t) (label u) ≡ false → ImproperAt (both t u) 0
+  shown : {n : ℕ} {t : Proof} → nat_eq (name_of (label t)) n ≡ true → ImproperAt (under n t) 0
+  in_left : {t : Proof} {k : ℕ} → ImproperAt t k → ImproperAt (on_left t) (suc k)
+  in_right : {t : Proof} {k : ℕ} → ImproperAt t k → ImproperAt (on_right t) (suc k)
+  in_first : {t u : Proof} {k : ℕ} → ImproperAt t k → ImproperAt (both t u) (suc k)
+  in_second : {t u : Proof} {k j : ℕ} → ImproperAt u k → j ≡ suc (length (proof_bytes t) + k) → ImproperAt (both t u) j
+  in_chosen_left : {t : Proof} {k : ℕ} → ImproperAt t k → ImproperAt (choose_left t) (suc k)
+  in_chosen_right : {t : Proof} {k : ℕ} → ImproperAt t k → ImproperAt (choose_right t) (suc k)
+  in_under : {n : ℕ} {t : Proof} {k : ℕ} → ImproperAt t k → ImproperAt (under n t) (suc (suc k))
+
+-- a place so many bytes further on
+abbrev pub further : ℕ → Option ℕ → Option ℕ
+further n (Some k) = Some (n + k)
+further n None = None
+
+abbrev pub or_else : Option ℕ → Option ℕ → Option ℕ
+or_else (Some k) o = Some k
+or_else None o = o
+
+-- the place of the first improper node
+unfoldable pub improper : Proof → Option ℕ
+improper (act a) = None
+improper (on_left t) = further 1 (improper t)
+improper (on_right t) = further 1 (improper t)
+improper (both t u) = cond (complementary (label t) (label u)) (or_else (further 1 (improper t)) (further (suc (length (proof_bytes t))) (improper u))) (Some 0)
+improper (choose_left t) = further 1 (improper t)
+improper (choose_right t) = further 1 (improper t)
+improper (under n t) = cond (nat_eq (name_of (label t)) n) (Some 0) (further 2 (improper t))

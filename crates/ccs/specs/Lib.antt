@@ -1,0 +1,16 @@
+pub mod Syntax
+pub mod Action
+pub mod Label
+pub mod Moves
+pub mod After
+pub mod Spelling
+pub mod Reading
+pub mod Beginning
+pub mod First
+pub mod Improper
+pub mod Follow
+pub mod Residual
+pub mod System
+pub mod ReadingLaws
+pub mod FollowLaws
+pub mod ResidualLaws

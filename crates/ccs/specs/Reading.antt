@@ -1,0 +1,105 @@
+-- Reading bytes: the terms or proofs that they are, or the first byte that fits none. Assumes nothing.
+use Rattle.std.specs.Prelude.{ℕ, zero, suc, Bool, true, false, cond, ◌&&◌, List, [], ◌∷◌, Some, None, Ok, Err, Option, Result, nat_eq, nat_le, nat_lt}
+use Rattle.steps.specs.Meaning.{Str}
+use Rattle.ccs.specs.Syntax.{Term, Proof}
+use Rattle.ccs.specs.Syntax.Term.{nil, prefix, par, sum, restrict, call}
+use Rattle.ccs.specs.Syntax.Proof.{act, on_left, on_right, both, choose_left, choose_right, under}
+use Rattle.ccs.specs.Action.{is_name, is_action}
+
+-- what the next byte has to be: a node's, or what belongs to the node before it
+pub data Due : Type 0 where
+  node : Due
+  action : Due
+  name : Due
+  number : Due
+
+-- What is due behind a byte that fits: the next byte, and how many terms or proofs; and what the byte makes of those that are read there.
+pub record Next (A : Type 0) : Type 0 where
+  pub due : Due
+  pub count : ℕ
+  pub build : List A → List A
+
+abbrev pub finished : Due → ℕ → Bool
+finished node zero = true
+finished node (suc k) = false
+finished action k = false
+finished name k = false
+finished number k = false
+
+-- a byte was read before what is read
+abbrev pub behind : {A B : Type 0} → (A → B) → Result A ℕ → Result B ℕ
+behind f (Ok x) = Ok (f x)
+behind f (Err p) = Err (suc p)
+
+abbrev pub onward : {A : Type 0} → Option (Next A) → (Due → ℕ → Result (List A) ℕ) → Result (List A) ℕ
+onward None rest = Err 0
+onward (Some n) rest = behind n.build (rest n.due n.count)
+
+-- So many, one behind the other and nothing else. Else the place of the first byte that fits none.
+unfoldable pub read : {A : Type 0} → (Due → ℕ → ℕ → Option (Next A)) → Due → ℕ → Str → Result (List A) ℕ
+read byte due k [] = cond (finished due k) (Ok []) (Err 0)
+read byte due k (b ∷ s) = onward (byte due k b) (λ d j. read byte d j s)
+
+-- a node alone before what is read behind it, or around the first of that, or around the first two
+abbrev pub alone : {A : Type 0} → A → ℕ → Option (Next A)
+alone x k = Some (record { due = node; count = k; build = λ xs. x ∷ xs })
+
+abbrev pub around : {A : Type 0} → (A → A) → List A → List A
+around f [] = []
+around f (x ∷ xs) = f x ∷ xs
+
+abbrev pub with_part : {A : Type 0} → (A → A) → ℕ → Option (Next A)
+with_part f k = Some (record { due = node; count = suc k; build = around f })
+
+abbrev pub joining : {A : Type 0} → (A → A → A) → List A → List A
+joining f [] = []
+joining f (x ∷ []) = x ∷ []
+joining f (x ∷ y ∷ xs) = f x y ∷ xs
+
+abbrev pub with_parts : {A : Type 0} → (A → A → A) → ℕ → Option (Next A)
+with_parts f k = Some (record { due = node; count = suc (suc k); build = joining f })
+
+-- a node's first byte, before what belongs to it
+abbrev pub before : {A : Type 0} → Due → ℕ → Option (Next A)
+before d k = Some (record { due = d; count = k; build = λ xs. xs })
+
+-- a byte of terms over n definitions, where so many terms are due; behind a node's first byte, one more
+unfoldable pub term_byte : ℕ → Due → ℕ → ℕ → Option (Next Term)
+term_byte n node zero b = None
+term_byte n node (suc k) b =
+    cond (nat_eq b 0x00) (alone nil k)
+    (cond (nat_eq b 0x01) (before action k)
+    (cond (nat_eq b 0x02) (with_parts par k)
+    (cond (nat_eq b 0x03) (with_parts sum k)
+    (cond (nat_eq b 0x04) (before name k)
+    (cond (nat_eq b 0x05 && nat_le 1 n) (before number k) None)))))
+term_byte n action k a = cond (is_action a) (with_part (prefix a) k) None
+term_byte n name k m = cond (is_name m) (with_part (restrict m) k) None
+term_byte n number k d = cond (nat_lt d n) (alone (call d) k) None
+
+-- a byte of proofs
+unfoldable pub proof_byte : Due → ℕ → ℕ → Option (Next Proof)
+proof_byte node zero b = None
+proof_byte node (suc k) b =
+    cond (nat_eq b 0x10) (before action k)
+    (cond (nat_eq b 0x11) (with_part on_left k)
+    (cond (nat_eq b 0x12) (with_part on_right k)
+    (cond (nat_eq b 0x13) (with_parts both k)
+    (cond (nat_eq b 0x14) (with_part choose_left k)
+    (cond (nat_eq b 0x15) (with_part choose_right k)
+    (cond (nat_eq b 0x16) (before name k) None))))))
+proof_byte action k a = cond (is_action a) (alone (act a) k) None
+proof_byte name k m = cond (is_name m) (with_part (under m) k) None
+proof_byte number k d = None
+
+-- a string as one term, or as one proof
+abbrev pub only : {A : Type 0} → Result (List A) ℕ → Result A ℕ
+only (Ok []) = Err 0
+only (Ok (x ∷ xs)) = Ok x
+only (Err p) = Err p
+
+abbrev pub read_term : ℕ → Str → Result Term ℕ
+read_term n s = only (read (term_byte n) node 1 s)
+
+abbrev pub read_proof : Str → Result Proof ℕ
+read_proof s = only (read proof_byte node 1 s)

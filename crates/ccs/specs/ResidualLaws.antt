@@ -1,0 +1,35 @@
+-- Independence, what is left, and back, by the rules. Assumes nothing.
+use Rattle.std.specs.Prelude.{◌≡◌, true, ◌↔◌, List, length, Some}
+use Rattle.steps.specs.Meaning.{Str}
+use Rattle.steps.specs.Laws.{Laws}
+use Rattle.ccs.specs.Syntax.{Term, Proof}
+use Rattle.ccs.specs.Label.{proper}
+use Rattle.ccs.specs.Spelling.{proof_bytes, sound_proof}
+use Rattle.ccs.specs.After.{After}
+use Rattle.ccs.specs.System.{sound_bodies, terms_transitions, terms_independence}
+
+-- x and y spell independent proper proofs, and z what is left of the first after the second
+pub record Leaves (x y z : Str) : Type 0 where
+  pub t : Proof
+  pub u : Proof
+  pub t' : Proof
+  pub u' : Proof
+  pub first : proof_bytes t ≡ x
+  pub first_sound : sound_proof t ≡ true
+  pub first_proper : proper t ≡ true
+  pub second : proof_bytes u ≡ y
+  pub second_sound : sound_proof u ≡ true
+  pub second_proper : proper u ≡ true
+  pub after : After t u t' u'
+  pub rest : proof_bytes t' ≡ z
+
+abbrev pub LeftByRules : Type 0
+LeftByRules = (x y z : Str) → (terms_independence.left x y ≡ Some z) ↔ Leaves x y z
+
+-- what is left, and back, undo each other
+abbrev pub BackUndoesLeft : Type 0
+BackUndoesLeft = (x y z : Str) → (terms_independence.back x z ≡ Some y) ↔ (terms_independence.left y x ≡ Some z)
+
+-- terms over sound definitions are a step system
+abbrev pub Lawful : Type 0
+Lawful = (ds : List Term) → sound_bodies (length ds) ds ≡ true → Laws (terms_transitions ds) terms_independence

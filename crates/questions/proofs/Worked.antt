@@ -1,0 +1,24 @@
+-- The answers, by computing the meaning. Assumes nothing.
+use Rattle.std.proofs.Common.{refl}
+use Rattle.ccs.specs.Label.{label}
+use Rattle.ccs.specs.Spelling.{term_bytes, proof_bytes}
+use Rattle.ccs.specs.Reading.{read, term_byte, proof_byte}
+use Rattle.ccs.specs.Improper.{improper}
+use Rattle.ccs.specs.Follow.{follow}
+use Rattle.ccs.specs.Residual.{residual, origin}
+use Rattle.questions.specs.Worked.{Worked}
+
+pub worked : Worked
+unfolding label term_bytes proof_bytes read term_byte proof_byte improper follow residual origin
+worked =
+    record {
+      choice_made = refl;
+      choice_back = refl;
+      two_branches = refl;
+      handshake = refl;
+      handshake_label = refl;
+      shared_end = refl;
+      choice_inside = refl;
+      restricted = refl;
+      event = refl;
+    }
