@@ -1,0 +1,5 @@
+pub mod Whole
+pub mod Agree
+pub mod Faults
+pub mod Split
+pub mod Nodes

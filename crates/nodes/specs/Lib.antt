@@ -1,0 +1,4 @@
+pub mod Whole
+pub mod Grammars
+pub mod Nodes
+pub mod Shapes

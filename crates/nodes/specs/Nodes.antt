@@ -1,0 +1,80 @@
+-- The node that a string is read as, with its parts as strings. Assumes nothing.
+use Rattle.std.specs.Prelude.{◌≡◌, ℕ, ◌+◌, length, Some, None, Ok, Err, Option, Result}
+use Rattle.steps.specs.Meaning.{Str}
+use Rattle.ccs.specs.Syntax.{Term, Proof}
+use Rattle.ccs.specs.Syntax.Term.{nil, prefix, par, sum, restrict, call}
+use Rattle.ccs.specs.Syntax.Proof.{act, on_left, on_right, both, choose_left, choose_right, under}
+use Rattle.ccs.specs.Reading.{read_term, read_proof}
+use Rattle.nodes.specs.declared.term.Term as terms
+use Rattle.nodes.specs.declared.term.Term.TheVariants as term
+use Rattle.nodes.specs.declared.proof.Proof as proofs
+use Rattle.nodes.specs.declared.proof.Proof.TheVariants as proof
+
+-- A node of a term, and one of a proof, each with its parts as strings.
+pub data NodeOfTerm : Type 0 where
+  Nil : NodeOfTerm
+  Prefix : (a : ℕ) (s : Str) → NodeOfTerm
+  Par : (s r : Str) → NodeOfTerm
+  Sum : (s r : Str) → NodeOfTerm
+  Restrict : (m : ℕ) (s : Str) → NodeOfTerm
+  Call : (d : ℕ) → NodeOfTerm
+
+pub data NodeOfProof : Type 0 where
+  Act : (a : ℕ) → NodeOfProof
+  Left : (s : Str) → NodeOfProof
+  Right : (s : Str) → NodeOfProof
+  Both : (s r : Str) → NodeOfProof
+  ChooseLeft : (s : Str) → NodeOfProof
+  ChooseRight : (s : Str) → NodeOfProof
+  Under : (m : ℕ) (s : Str) → NodeOfProof
+
+abbrev pub term_view : Option terms.Term → Option NodeOfTerm
+term_view None = None
+term_view (Some term.Nil) = Some Nil
+term_view (Some (term.Prefix a s)) = Some (Prefix a s.now)
+term_view (Some (term.Par s r)) = Some (Par s.now r.now)
+term_view (Some (term.Sum s r)) = Some (Sum s.now r.now)
+term_view (Some (term.Restrict m s)) = Some (Restrict m s.now)
+term_view (Some (term.Call d)) = Some (Call d)
+
+abbrev pub proof_view : Option proofs.Proof → Option NodeOfProof
+proof_view None = None
+proof_view (Some (proof.Act a)) = Some (Act a)
+proof_view (Some (proof.Left s)) = Some (Left s.now)
+proof_view (Some (proof.Right s)) = Some (Right s.now)
+proof_view (Some (proof.Both s r)) = Some (Both s.now r.now)
+proof_view (Some (proof.ChooseLeft s)) = Some (ChooseLeft s.now)
+proof_view (Some (proof.ChooseRight s)) = Some (ChooseRight s.now)
+proof_view (Some (proof.Under m s)) = Some (Under m s.now)
+
+-- A string that is a term over n definitions is read as its first node, whose parts are the strings of the term's parts; any other as none.
+pub data TermNode (n : ℕ) : Option NodeOfTerm → Result Term ℕ → Type 0 where
+  no_term : {k : ℕ} → TermNode n None (Err k)
+  nil_node : TermNode n (Some Nil) (Ok nil)
+  prefix_node : {a : ℕ} {s : Str} {p : Term} → read_term n s ≡ Ok p → TermNode n (Some (Prefix a s)) (Ok (prefix a p))
+  par_node : {s r : Str} {p q : Term} → read_term n s ≡ Ok p → read_term n r ≡ Ok q → TermNode n (Some (Par s r)) (Ok (par p q))
+  sum_node : {s r : Str} {p q : Term} → read_term n s ≡ Ok p → read_term n r ≡ Ok q → TermNode n (Some (Sum s r)) (Ok (sum p q))
+  restrict_node : {m : ℕ} {s : Str} {p : Term} → read_term n s ≡ Ok p → TermNode n (Some (Restrict m s)) (Ok (restrict m p))
+  call_node : {d : ℕ} → TermNode n (Some (Call d)) (Ok (call d))
+
+-- A string that is a proof, likewise.
+pub data ProofNode : Option NodeOfProof → Result Proof ℕ → Type 0 where
+  no_proof : {k : ℕ} → ProofNode None (Err k)
+  act_node : {a : ℕ} → ProofNode (Some (Act a)) (Ok (act a))
+  left_node : {s : Str} {t : Proof} → read_proof s ≡ Ok t → ProofNode (Some (Left s)) (Ok (on_left t))
+  right_node : {s : Str} {t : Proof} → read_proof s ≡ Ok t → ProofNode (Some (Right s)) (Ok (on_right t))
+  both_node : {s r : Str} {t u : Proof} → read_proof s ≡ Ok t → read_proof r ≡ Ok u → ProofNode (Some (Both s r)) (Ok (both t u))
+  choose_left_node : {s : Str} {t : Proof} → read_proof s ≡ Ok t → ProofNode (Some (ChooseLeft s)) (Ok (choose_left t))
+  choose_right_node : {s : Str} {t : Proof} → read_proof s ≡ Ok t → ProofNode (Some (ChooseRight s)) (Ok (choose_right t))
+  under_node : {m : ℕ} {s : Str} {t : Proof} → read_proof s ≡ Ok t → ProofNode (Some (Under m s)) (Ok (under m t))
+
+-- A node's own bytes and its parts together are the string: one byte is its own, or two.
+abbrev pub Fills : Option NodeOfProof → ℕ → Type 0
+Fills None n = Unit {0}
+Fills (Some (Act a)) n = Unit {0}
+Fills (Some (Left s)) n = n ≡ 1 + length s
+Fills (Some (Right s)) n = n ≡ 1 + length s
+Fills (Some (Both s r)) n = n ≡ 1 + (length s + length r)
+Fills (Some (ChooseLeft s)) n = n ≡ 1 + length s
+Fills (Some (ChooseRight s)) n = n ≡ 1 + length s
+Fills (Some (Under m s)) n = n ≡ 2 + length s

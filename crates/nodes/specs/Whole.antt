@@ -1,0 +1,43 @@
+-- How far a string is one term or proof, by what is due behind each byte. Assumes nothing.
+use Rattle.std.specs.Prelude.{ℕ, ◌+◌, ◌≤◌, Bool, false, cond, [], ◌∷◌, Some, None, Ok, Err, Option, Result, ◌==◌, nat_lt, nat_le, length, take, drop}
+use Rattle.std.specs.Borrow.{Bor}
+use Rattle.steps.specs.Meaning.{Str}
+use Rattle.nodes.specs.declared.scan.Due.TheVariants.{Node, Action, Name, Number}
+use Rattle.nodes.specs.declared.scan.Wanted.{Wanted}
+
+-- a byte makes at most one more due
+abbrev pub at_most_one_more : Option Wanted → ℕ → Type 0
+at_most_one_more None k = Unit {0}
+at_most_one_more (Some w) k = w.count ≤ k + 1
+
+-- one is due, from its first byte on
+abbrev pub start : Wanted
+start = record { due = Node; count = 1 }
+
+-- nothing is due any more
+abbrev pub done : Wanted → Bool
+done w = elim w.due [ Node ↦ w.count == 0 | Action ↦ false | Name ↦ false | Number ↦ false ]
+
+-- one byte further on
+abbrev pub one_on : Result ℕ ℕ → Result ℕ ℕ
+one_on (Ok n) = Ok (1 + n)
+one_on (Err p) = Err (1 + p)
+
+-- the length of the shortest beginning behind which nothing is due; else the place of the first byte that does not fit
+unfoldable pub whole : (Wanted → ℕ → Option Wanted) → Wanted → Str → Result ℕ ℕ
+whole fits w [] = Err 0
+whole fits w (b ∷ s) = elim (fits w b) [ None ↦ Err 0 | Some v ↦ cond (done v) (Ok 1) (one_on (whole fits v s)) ]
+
+-- the place of the first byte that fits none: a string goes on behind its first term or proof, or ends before
+abbrev pub whole_fault : Result ℕ ℕ → ℕ → Option ℕ
+whole_fault (Ok n) l = cond (nat_lt n l) (Some n) None
+whole_fault (Err p) l = Some p
+
+-- the first term or proof, and what stands behind it
+abbrev pub split_told : Result ℕ ℕ → Str → Option (Str × Str)
+split_told (Ok n) s = cond (nat_le n (length s)) (Some (take n s, drop n s)) None
+split_told (Err p) s = None
+
+abbrev pub split_view : Option (Bor Str × Bor Str) → Option (Str × Str)
+split_view None = None
+split_view (Some (s, r)) = Some (s.now, r.now)

@@ -1,0 +1,116 @@
+// The nodes of a term.
+ghost use Rattle.std.specs.Prelude.{◌≡◌, suc, ◌<◌, ◌^◌};
+ghost use Rattle.std.specs.Result.{result_err};
+ghost use Rattle.ccs.specs.Reading.{read_term, term_byte};
+ghost use Rattle.nodes.specs.declared.scan.Due.TheVariants.{Node};
+ghost use Rattle.nodes.specs.Whole.{at_most_one_more};
+ghost use Rattle.nodes.specs.Grammars.{fits_of};
+ghost use Rattle.nodes.specs.Nodes.{TermNode, term_view};
+ghost use Rattle.nodes.specs.Shapes.{term_shape};
+
+use crate::action::{is_action, is_name};
+use crate::scan::{Due, Grammar, Wanted, fault, split};
+
+// A node of a term, with its parts as they stand in the string.
+#[derive(Clone, Copy)]
+pub enum Term<'a> {
+    Nil,
+    Prefix(u8, &'a [u8]),
+    Par(&'a [u8], &'a [u8]),
+    Sum(&'a [u8], &'a [u8]),
+    Restrict(u8, &'a [u8]),
+    Call(u8),
+}
+
+// The bytes that fit in terms over so many definitions.
+#[derive(Clone, Copy)]
+struct Terms {
+    definitions: u8,
+}
+
+impl Grammar for Terms {
+    ghost fits = { λ g. fits_of (term_byte g.definitions) };
+
+    #[tactic(auto, unfolding(ccs::specs::Reading::term_byte))]
+    fn byte(&self, wanted: Wanted, byte: u8) -> Option<Wanted> {
+        let Wanted { due, count } = wanted;
+        match due {
+            Due::Node if count > 0 => self.node_byte(count - 1, byte),
+            Due::Action if is_action(byte) => Some(Due::Node.of(count + 1)),
+            Due::Name if is_name(byte) => Some(Due::Node.of(count + 1)),
+            Due::Number if byte < self.definitions => Some(Due::Node.of(count)),
+            _ => None,
+        }
+    }
+}
+
+impl Terms {
+    // What is wanted behind the first byte of a term's node, where so many more terms are due.
+    #[tactic(auto, unfolding(ccs::specs::Reading::term_byte))]
+    fn node_byte(&self, rest: usize, byte: u8) -> Option<Wanted>
+        requires { rest < 2 ^ 63 }
+        ensures next { result ≡ fits_of (term_byte self.now.definitions) (record { due = Node; count = suc rest }) byte }
+        ensures few { at_most_one_more result (suc rest) }
+    {
+        match byte {
+            0x00 => Some(Due::Node.of(rest)),
+            0x01 => Some(Due::Action.of(rest)),
+            0x02 | 0x03 => Some(Due::Node.of(rest + 2)),
+            0x04 => Some(Due::Name.of(rest)),
+            0x05 => (self.definitions > 0).then_some(Due::Number.of(rest)),
+            _ => None,
+        }
+    }
+}
+
+impl Terms {
+    // The node with this first byte, before these bytes; none where they do not fit it.
+    fn shape<'a>(&self, kind: u8, rest: &'a [u8]) -> Option<Term<'a>>
+        ensures { term_view result ≡ term_shape self.now.definitions kind rest.now }
+    {
+        match kind {
+            0x00 => Some(Term::Nil),
+            0x01 => {
+                let (action, part) = rest.split_first()?;
+                Some(Term::Prefix(*action, part))
+            }
+            0x02 => {
+                let (first, second) = split(self, rest)?;
+                Some(Term::Par(first, second))
+            }
+            0x03 => {
+                let (first, second) = split(self, rest)?;
+                Some(Term::Sum(first, second))
+            }
+            0x04 => {
+                let (name, part) = rest.split_first()?;
+                Some(Term::Restrict(*name, part))
+            }
+            0x05 => Some(Term::Call(*rest.first()?)),
+            _ => None,
+        }
+    }
+}
+
+impl Term<'_> {
+    // The first byte that fits no term over so many definitions, of a string that is to be one; none where it is one.
+    pub fn fault(definitions: u8, bytes: &[u8]) -> Option<usize>
+        ensures { result ≡ result_err (read_term definitions bytes.now) }
+    {
+        fault(&Terms { definitions }, bytes)
+    }
+
+    // Reads a term over so many definitions as its first node; none where the string is no term.
+    pub fn read(definitions: u8, bytes: &[u8]) -> Option<Term<'_>>
+        ensures { TermNode definitions (term_view result) (read_term definitions bytes.now) }
+    {
+        let terms = Terms { definitions };
+        if fault(&terms, bytes).is_some() {
+            return None;
+        }
+        let Some((kind, rest)) = bytes.split_first() else {
+            return None;
+        };
+        terms.shape(*kind, rest)
+    }
+}
