@@ -1,5 +1,6 @@
 -- The node that a string is read as, with its parts as strings. Assumes nothing.
-use Rattle.std.specs.Prelude.{◌≡◌, ℕ, ◌+◌, length, Some, None, Ok, Err, Option, Result}
+use Rattle.std.specs.Prelude.{◌≡◌, ℕ, ◌+◌, cond, nat_eq, length, Some, None, Ok, Err, Option, Result}
+use Rattle.std.specs.Borrow.{Bor}
 use Rattle.steps.specs.Meaning.{Str}
 use Rattle.ccs.specs.Syntax.{Term, Proof}
 use Rattle.ccs.specs.Syntax.Term.{nil, prefix, par, sum, restrict, call}
@@ -37,15 +38,18 @@ term_view (Some (term.Sum s r)) = Some (Sum s.now r.now)
 term_view (Some (term.Restrict m s)) = Some (Restrict m s.now)
 term_view (Some (term.Call d)) = Some (Call d)
 
+abbrev pub node_view : proofs.Proof → NodeOfProof
+node_view (proof.Act a) = Act a
+node_view (proof.Left s) = Left s.now
+node_view (proof.Right s) = Right s.now
+node_view (proof.Both s r) = Both s.now r.now
+node_view (proof.ChooseLeft s) = ChooseLeft s.now
+node_view (proof.ChooseRight s) = ChooseRight s.now
+node_view (proof.Under m s) = Under m s.now
+
 abbrev pub proof_view : Option proofs.Proof → Option NodeOfProof
 proof_view None = None
-proof_view (Some (proof.Act a)) = Some (Act a)
-proof_view (Some (proof.Left s)) = Some (Left s.now)
-proof_view (Some (proof.Right s)) = Some (Right s.now)
-proof_view (Some (proof.Both s r)) = Some (Both s.now r.now)
-proof_view (Some (proof.ChooseLeft s)) = Some (ChooseLeft s.now)
-proof_view (Some (proof.ChooseRight s)) = Some (ChooseRight s.now)
-proof_view (Some (proof.Under m s)) = Some (Under m s.now)
+proof_view (Some t) = Some (node_view t)
 
 -- A string that is a term over n definitions is read as its first node, whose parts are the strings of the term's parts; any other as none.
 pub data TermNode (n : ℕ) : Option NodeOfTerm → Result Term ℕ → Type 0 where
@@ -78,3 +82,50 @@ Fills (Some (Both s r)) n = n ≡ 1 + (length s + length r)
 Fills (Some (ChooseLeft s)) n = n ≡ 1 + length s
 Fills (Some (ChooseRight s)) n = n ≡ 1 + length s
 Fills (Some (Under m s)) n = n ≡ 2 + length s
+
+-- what a proof does on the left and on the right of a parallel term
+abbrev pub sides_of : NodeOfProof → Option (Option Str × Option Str)
+sides_of (Act a) = None
+sides_of (Left s) = Some (Some s, None)
+sides_of (Right s) = Some (None, Some s)
+sides_of (Both s r) = Some (Some s, Some r)
+sides_of (ChooseLeft s) = None
+sides_of (ChooseRight s) = None
+sides_of (Under m s) = None
+
+-- what it does in the left branch of a choice, in the right one, and under the restriction of a name
+abbrev pub left_branch_of : NodeOfProof → Option Str
+left_branch_of (Act a) = None
+left_branch_of (Left s) = None
+left_branch_of (Right s) = None
+left_branch_of (Both s r) = None
+left_branch_of (ChooseLeft s) = Some s
+left_branch_of (ChooseRight s) = None
+left_branch_of (Under m s) = None
+
+abbrev pub right_branch_of : NodeOfProof → Option Str
+right_branch_of (Act a) = None
+right_branch_of (Left s) = None
+right_branch_of (Right s) = None
+right_branch_of (Both s r) = None
+right_branch_of (ChooseLeft s) = None
+right_branch_of (ChooseRight s) = Some s
+right_branch_of (Under m s) = None
+
+abbrev pub under_of : ℕ → NodeOfProof → Option Str
+under_of n (Act a) = None
+under_of n (Left s) = None
+under_of n (Right s) = None
+under_of n (Both s r) = None
+under_of n (ChooseLeft s) = None
+under_of n (ChooseRight s) = None
+under_of n (Under m s) = cond (nat_eq m n) (Some s) None
+
+-- parts that are lent, as strings
+abbrev pub part_view : Option (Bor Str) → Option Str
+part_view None = None
+part_view (Some s) = Some s.now
+
+abbrev pub sides_view : Option (Option (Bor Str) × Option (Bor Str)) → Option (Option Str × Option Str)
+sides_view None = None
+sides_view (Some (l, r)) = Some (part_view l, part_view r)

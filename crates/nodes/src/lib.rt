@@ -3,6 +3,7 @@
 #![tactic(auto)]
 
 pub mod action;
+pub mod parts;
 pub mod proof;
 pub mod scan;
 pub mod term;
