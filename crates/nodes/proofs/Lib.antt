@@ -3,3 +3,4 @@ pub mod Agree
 pub mod Faults
 pub mod Split
 pub mod Nodes
+pub mod Inverted

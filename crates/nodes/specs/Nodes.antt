@@ -119,7 +119,7 @@ under_of n (Right s) = None
 under_of n (Both s r) = None
 under_of n (ChooseLeft s) = None
 under_of n (ChooseRight s) = None
-under_of n (Under m s) = cond (nat_eq m n) (Some s) None
+under_of n (Under m s) = cond (nat_eq n m) (Some s) None
 
 -- parts that are lent, as strings
 abbrev pub part_view : Option (Bor Str) → Option Str

@@ -42,7 +42,7 @@ impl<'a> Proof<'a> {
         ensures { part_view result ≡ under_of name (node_view self.entry) }
     {
         match self {
-            Proof::Under(restricted, part) if restricted == name => Some(part),
+            Proof::Under(restricted, part) if name == restricted => Some(part),
             _ => None,
         }
     }

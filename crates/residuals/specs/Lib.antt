@@ -1,0 +1,2 @@
+pub mod Sink
+pub mod Steps

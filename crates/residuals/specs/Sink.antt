@@ -1,0 +1,25 @@
+-- What a sink holds when bytes have been written to it. Assumes nothing.
+use Rattle.std.specs.Prelude.{ℕ, min, ◌+◌, cond, [], ◌∷◌, ◌++◌, length, take, Some, None, Option, Ok, Err, Result, nat_le}
+use Rattle.steps.specs.Meaning.{Str}
+use Rattle.residuals.specs.declared.sink.Sink.{Sink}
+
+abbrev pub empty : Sink
+empty = record { kept = []; len = 0 }
+
+-- a byte is written behind what was: the first 256 bytes are kept, and 65,535 at most are counted
+abbrev pub with_byte : Sink → ℕ → Sink
+with_byte s b = record { kept = take 256 (s.kept ++ b ∷ []); len = min (s.len + 1) 65535 }
+
+-- a string is written, byte by byte
+unfoldable pub poured : Sink → Str → Sink
+poured s [] = s
+poured s (b ∷ w) = poured (with_byte s b) w
+
+-- what is answered of a string that may be: it is written behind what was
+abbrev pub onto : Sink → Option Str → Option Sink
+onto s (Some w) = Some (poured s w)
+onto s None = None
+
+-- all, where it is within a limit and a buffer of n bytes; else the length that is needed
+abbrev pub put_told : Sink → ℕ → ℕ → Result Str ℕ
+put_told s limit n = cond (nat_le s.len limit) (cond (nat_le (length s.kept) n) (Ok s.kept) (Err s.len)) (Err s.len)

@@ -1,0 +1,39 @@
+// Which steps are proper.
+ghost use Rattle.std.specs.Prelude.{◌≡◌, length};
+ghost use Rattle.ccs.specs.Reading.{read_proof};
+ghost use Rattle.ccs.specs.System.{improper_of};
+ghost use Rattle.residuals.specs.Steps.{Within};
+
+use crate::label::label;
+use nodes::action::{complementary, name_of};
+use nodes::proof::Proof;
+
+// The first improper node, by the place of its first byte: two sides that show no name and its co-name, or a restriction of the name that
+// is shown. None of a string that is no proof.
+pub fn improper(step: &[u8]) -> Option<usize>
+    ensures place { result ≡ improper_of (read_proof step.now) }
+    ensures within { Within result (length step.now) }
+{
+    match Proof::read(step)? {
+        Proof::Act(_) => None,
+        Proof::Left(part)
+        | Proof::Right(part)
+        | Proof::ChooseLeft(part)
+        | Proof::ChooseRight(part) => Some(1 + improper(part)?),
+        Proof::Both(first, second) => {
+            if !complementary(label(first).action, label(second).action) {
+                return Some(0);
+            }
+            if let Some(place) = improper(first) {
+                return Some(1 + place);
+            }
+            Some(1 + first.len() + improper(second)?)
+        }
+        Proof::Under(name, part) => {
+            if name_of(label(part).action) == name {
+                return Some(0);
+            }
+            Some(2 + improper(part)?)
+        }
+    }
+}

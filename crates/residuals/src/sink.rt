@@ -1,0 +1,62 @@
+// Bytes written one behind the other, of which the first 256 are kept and all are counted.
+ghost use Rattle.std.specs.Prelude.{◌≡◌, length};
+ghost use Rattle.byte_strings.specs.Buffer.{count, kept};
+ghost use Rattle.residuals.specs.Sink.{empty, with_byte, poured, put_told};
+
+use byte_strings::buffer;
+use byte_strings::held::Held;
+
+// What is written here may turn out longer than it may be, and then its length is told: so it is counted, and kept as far as it may be asked for.
+#[derive(Clone, Copy)]
+pub struct Sink {
+    kept: Held<256>,
+    // Up to 65,535, the greatest length that is told.
+    len: u16,
+}
+
+impl Sink {
+    // Nothing is written yet.
+    pub fn new() -> Sink
+        ensures { result ≡ empty }
+    {
+        Sink {
+            kept: Held::empty(),
+            len: 0,
+        }
+    }
+
+    // With a byte written behind.
+    pub fn byte(self, byte: u8) -> Sink
+        ensures { result ≡ with_byte self byte }
+    {
+        let Sink { mut kept, len } = self;
+        kept.push(byte);
+        Sink {
+            kept,
+            len: len.saturating_add(1),
+        }
+    }
+
+    // With a string written behind.
+    pub fn bytes(self, text: &[u8]) -> Sink
+        ensures { result ≡ poured self text.now }
+    {
+        let mut sink = self;
+        for byte in text {
+            sink = sink.byte(*byte);
+        }
+        sink
+    }
+
+    // Writes all over the front of a buffer and answers the length; the length that is needed, and the buffer as it was, where that is
+    // more than the limit or than the buffer has.
+    pub fn put(&self, limit: u16, out: &mut [u8]) -> Result<usize, u16>
+        ensures answer { result ≡ count (put_told self.now limit (length out.old)) }
+        ensures buffer { out.new ≡ kept (put_told self.now limit (length out.old)) out.old }
+    {
+        if self.len > limit {
+            return Err(self.len);
+        }
+        buffer::copy(self.kept.items(), out).ok_or(self.len)
+    }
+}
