@@ -1,12 +1,11 @@
 -- What a node tells of the string that was read as it, and of its parts. Assumes nothing.
-use Rattle.std.proofs.Common.{◌≡◌, ℕ, Some, None, Ok, Err, Option, Result, refl, subst}
-use Rattle.steps.specs.Meaning.{Str}
+use Rattle.std.proofs.Common.{◌≡◌, ℕ, Some, None, Ok, Err, Result, refl, subst}
 use Rattle.ccs.specs.Syntax.{Term, Proof}
 use Rattle.ccs.specs.Syntax.Term.{nil, prefix, par, sum, restrict, call}
 use Rattle.ccs.specs.Syntax.Proof.{act, on_left, on_right, both, choose_left, choose_right, under}
 use Rattle.ccs.specs.Reading.{read_term, read_proof}
 use Rattle.nodes.specs.declared.proof.Proof as proofs
-use Rattle.nodes.specs.Nodes.{NodeOfTerm, NodeOfProof, TermNode, ProofNode, node_view}
+use Rattle.nodes.specs.Nodes.{NodeOfTerm, NodeOfProof, TermNode, ProofNode, node_of_proof}
 use Rattle.nodes.specs.Nodes.NodeOfTerm.{Nil, Prefix, Par, Sum, Restrict, Call}
 use Rattle.nodes.specs.Nodes.NodeOfProof.{Act, Left, Right, Both, ChooseLeft, ChooseRight, Under}
 use Rattle.nodes.specs.Nodes.TermNode.{no_term, nil_node, prefix_node, par_node, sum_node, restrict_node, call_node}
@@ -53,5 +52,5 @@ pub not_a_term : {n : ℕ} {r : Result Term ℕ} → TermNode n None r → (k : 
 not_a_term no_term = (_, refl)
 
 -- the same of a node that is known
-pub proof_parts_at : {n m : proofs.Proof} {r : Result Proof ℕ} → ProofNode (Some (node_view n)) r → n ≡ m → ProofParts (node_view m) r
-proof_parts_at {r = r} h e = proof_parts (subst (λ n. ProofNode (Some (node_view n)) r) e h)
+pub proof_parts_at : {n m : proofs.Proof} {r : Result Proof ℕ} → ProofNode (Some (node_of_proof n)) r → n ≡ m → ProofParts (node_of_proof m) r
+proof_parts_at {r = r} h e = proof_parts (subst (λ n. ProofNode (Some (node_of_proof n)) r) e h)

@@ -1,3 +1,4 @@
+pub mod Lent
 pub mod Whole
 pub mod Grammars
 pub mod Nodes

@@ -1,6 +1,5 @@
 -- The node that a string is read as, with its parts as strings. Assumes nothing.
 use Rattle.std.specs.Prelude.{◌≡◌, ℕ, ◌+◌, cond, nat_eq, length, Some, None, Ok, Err, Option, Result}
-use Rattle.std.specs.Borrow.{Bor}
 use Rattle.steps.specs.Meaning.{Str}
 use Rattle.ccs.specs.Syntax.{Term, Proof}
 use Rattle.ccs.specs.Syntax.Term.{nil, prefix, par, sum, restrict, call}
@@ -29,27 +28,30 @@ pub data NodeOfProof : Type 0 where
   ChooseRight : (s : Str) → NodeOfProof
   Under : (m : ℕ) (s : Str) → NodeOfProof
 
+abbrev pub node_of_term : terms.Term → NodeOfTerm
+node_of_term term.Nil = Nil
+node_of_term (term.Prefix a s) = Prefix a s.now
+node_of_term (term.Par s r) = Par s.now r.now
+node_of_term (term.Sum s r) = Sum s.now r.now
+node_of_term (term.Restrict m s) = Restrict m s.now
+node_of_term (term.Call d) = Call d
+
 abbrev pub term_view : Option terms.Term → Option NodeOfTerm
 term_view None = None
-term_view (Some term.Nil) = Some Nil
-term_view (Some (term.Prefix a s)) = Some (Prefix a s.now)
-term_view (Some (term.Par s r)) = Some (Par s.now r.now)
-term_view (Some (term.Sum s r)) = Some (Sum s.now r.now)
-term_view (Some (term.Restrict m s)) = Some (Restrict m s.now)
-term_view (Some (term.Call d)) = Some (Call d)
+term_view (Some p) = Some (node_of_term p)
 
-abbrev pub node_view : proofs.Proof → NodeOfProof
-node_view (proof.Act a) = Act a
-node_view (proof.Left s) = Left s.now
-node_view (proof.Right s) = Right s.now
-node_view (proof.Both s r) = Both s.now r.now
-node_view (proof.ChooseLeft s) = ChooseLeft s.now
-node_view (proof.ChooseRight s) = ChooseRight s.now
-node_view (proof.Under m s) = Under m s.now
+abbrev pub node_of_proof : proofs.Proof → NodeOfProof
+node_of_proof (proof.Act a) = Act a
+node_of_proof (proof.Left s) = Left s.now
+node_of_proof (proof.Right s) = Right s.now
+node_of_proof (proof.Both s r) = Both s.now r.now
+node_of_proof (proof.ChooseLeft s) = ChooseLeft s.now
+node_of_proof (proof.ChooseRight s) = ChooseRight s.now
+node_of_proof (proof.Under m s) = Under m s.now
 
 abbrev pub proof_view : Option proofs.Proof → Option NodeOfProof
 proof_view None = None
-proof_view (Some t) = Some (node_view t)
+proof_view (Some t) = Some (node_of_proof t)
 
 -- A string that is a term over n definitions is read as its first node, whose parts are the strings of the term's parts; any other as none.
 pub data TermNode (n : ℕ) : Option NodeOfTerm → Result Term ℕ → Type 0 where
@@ -121,11 +123,43 @@ under_of n (ChooseLeft s) = None
 under_of n (ChooseRight s) = None
 under_of n (Under m s) = cond (nat_eq n m) (Some s) None
 
--- parts that are lent, as strings
-abbrev pub part_view : Option (Bor Str) → Option Str
-part_view None = None
-part_view (Some s) = Some s.now
+-- what a term does next: the rest behind an action, two sides, two branches, a term under a restriction, the body of a definition
+abbrev pub rest_of : ℕ → NodeOfTerm → Option Str
+rest_of a Nil = None
+rest_of a (Prefix b s) = cond (nat_eq b a) (Some s) None
+rest_of a (Par s r) = None
+rest_of a (Sum s r) = None
+rest_of a (Restrict m s) = None
+rest_of a (Call d) = None
 
-abbrev pub sides_view : Option (Option (Bor Str) × Option (Bor Str)) → Option (Option Str × Option Str)
-sides_view None = None
-sides_view (Some (l, r)) = Some (part_view l, part_view r)
+abbrev pub par_of : NodeOfTerm → Option (Str × Str)
+par_of Nil = None
+par_of (Prefix a s) = None
+par_of (Par s r) = Some (s, r)
+par_of (Sum s r) = None
+par_of (Restrict m s) = None
+par_of (Call d) = None
+
+abbrev pub sum_of : NodeOfTerm → Option (Str × Str)
+sum_of Nil = None
+sum_of (Prefix a s) = None
+sum_of (Par s r) = None
+sum_of (Sum s r) = Some (s, r)
+sum_of (Restrict m s) = None
+sum_of (Call d) = None
+
+abbrev pub restricted_of : ℕ → NodeOfTerm → Option Str
+restricted_of n Nil = None
+restricted_of n (Prefix a s) = None
+restricted_of n (Par s r) = None
+restricted_of n (Sum s r) = None
+restricted_of n (Restrict m s) = cond (nat_eq m n) (Some s) None
+restricted_of n (Call d) = None
+
+abbrev pub called_of : NodeOfTerm → Option ℕ
+called_of Nil = None
+called_of (Prefix a s) = None
+called_of (Par s r) = None
+called_of (Sum s r) = None
+called_of (Restrict m s) = None
+called_of (Call d) = Some d

@@ -1,6 +1,5 @@
 -- How far a string is one term or proof, by what is due behind each byte. Assumes nothing.
 use Rattle.std.specs.Prelude.{ℕ, ◌+◌, ◌≤◌, Bool, false, cond, [], ◌∷◌, Some, None, Ok, Err, Option, Result, ◌==◌, nat_lt, nat_le, length, take, drop}
-use Rattle.std.specs.Borrow.{Bor}
 use Rattle.steps.specs.Meaning.{Str}
 use Rattle.nodes.specs.declared.scan.Due.TheVariants.{Node, Action, Name, Number}
 use Rattle.nodes.specs.declared.scan.Wanted.{Wanted}
@@ -37,7 +36,3 @@ whole_fault (Err p) l = Some p
 abbrev pub split_told : Result ℕ ℕ → Str → Option (Str × Str)
 split_told (Ok n) s = cond (nat_le n (length s)) (Some (take n s, drop n s)) None
 split_told (Err p) s = None
-
-abbrev pub split_view : Option (Bor Str × Bor Str) → Option (Str × Str)
-split_view None = None
-split_view (Some (s, r)) = Some (s.now, r.now)
