@@ -1,0 +1,3 @@
+pub mod Follows
+pub mod Unfolding
+pub mod Added

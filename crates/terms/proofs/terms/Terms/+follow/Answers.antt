@@ -1,0 +1,97 @@
+use Rattle.std.proofs.Common.{rules}
+use Rattle.terms.specs.Contents.{terms_of}
+use Rattle.terms.specs.Sound.{length_terms}
+use Rattle.terms.proofs.Follows.{follow_none, follow_is}
+use Rattle.terms.proofs.terms.Terms.+follow.Goals as goal
+
+pub returns-in_default-clause-answer : goal.returns-in_default-clause-answer
+returns-in_default-clause-answer t c =
+    follow_none (terms_of c.args.self.now) c.args.self.now.count (length_terms c.args.self.now.count c.args.self.now.bodies c.args.self.now.few) c.args.term.now c.args.step.now c.in_default.ensures c.args.sink
+
+pub returns-in_default-read-clause-answer : goal.returns-in_default-read-clause-answer
+returns-in_default-read-clause-answer t c =
+    follow_is (terms_of c.args.self.now) c.args.self.now.count (length_terms c.args.self.now.count c.args.self.now.bodies c.args.self.now.few) c.args.term.now c.args.step.now c.in-Some.ensures c.in_default-read.ensures.node c.args.sink
+
+pub returns-in_err-rest-in-Act-clause-answer : goal.returns-in_err-rest-in-Act-clause-answer
+returns-in_err-rest-in-Act-clause-answer t c =
+    search (rules, follow_is (terms_of c.args.self.now) c.args.self.now.count (length_terms c.args.self.now.count c.args.self.now.bodies c.args.self.now.few) c.args.term.now c.args.step.now c.in-Some.ensures c.in-Some-read.ensures.node c.args.sink)
+
+pub returns-in_err-left-in-Left-clause-answer : goal.returns-in_err-left-in-Left-clause-answer
+returns-in_err-left-in-Left-clause-answer t c =
+    search (rules, follow_is (terms_of c.args.self.now) c.args.self.now.count (length_terms c.args.self.now.count c.args.self.now.bodies c.args.self.now.few) c.args.term.now c.args.step.now c.in-Some.ensures c.in-Some-read.ensures.node c.args.sink)
+
+pub returns-in_err-left-in-Right-clause-answer : goal.returns-in_err-left-in-Right-clause-answer
+returns-in_err-left-in-Right-clause-answer t c =
+    search (rules, follow_is (terms_of c.args.self.now) c.args.self.now.count (length_terms c.args.self.now.count c.args.self.now.bodies c.args.self.now.few) c.args.term.now c.args.step.now c.in-Some.ensures c.in-Some-read.ensures.node c.args.sink)
+
+pub returns-in_err-left-in-Both-clause-answer : goal.returns-in_err-left-in-Both-clause-answer
+returns-in_err-left-in-Both-clause-answer t c =
+    search (rules, follow_is (terms_of c.args.self.now) c.args.self.now.count (length_terms c.args.self.now.count c.args.self.now.bodies c.args.self.now.few) c.args.term.now c.args.step.now c.in-Some.ensures c.in-Some-read.ensures.node c.args.sink)
+
+pub returns-in_err-left-in-ChooseLeft-clause-answer : goal.returns-in_err-left-in-ChooseLeft-clause-answer
+returns-in_err-left-in-ChooseLeft-clause-answer t c =
+    search (rules, follow_is (terms_of c.args.self.now) c.args.self.now.count (length_terms c.args.self.now.count c.args.self.now.bodies c.args.self.now.few) c.args.term.now c.args.step.now c.in-Some.ensures c.in-Some-read.ensures.node c.args.sink)
+
+pub returns-in_err-right-in-ChooseRight-clause-answer : goal.returns-in_err-right-in-ChooseRight-clause-answer
+returns-in_err-right-in-ChooseRight-clause-answer t c =
+    search (rules, follow_is (terms_of c.args.self.now) c.args.self.now.count (length_terms c.args.self.now.count c.args.self.now.bodies c.args.self.now.few) c.args.term.now c.args.step.now c.in-Some.ensures c.in-Some-read.ensures.node c.args.sink)
+
+pub returns-in_err-inner-in-Under-clause-answer : goal.returns-in_err-inner-in-Under-clause-answer
+returns-in_err-inner-in-Under-clause-answer t c =
+    search (rules, follow_is (terms_of c.args.self.now) c.args.self.now.count (length_terms c.args.self.now.count c.args.self.now.bodies c.args.self.now.few) c.args.term.now c.args.step.now c.in-Some.ensures c.in-Some-read.ensures.node c.args.sink)
+
+pub returns-in_ok-rest-in-Act-clause-answer : goal.returns-in_ok-rest-in-Act-clause-answer
+returns-in_ok-rest-in-Act-clause-answer t c =
+    search (rules, follow_is (terms_of c.args.self.now) c.args.self.now.count (length_terms c.args.self.now.count c.args.self.now.bodies c.args.self.now.few) c.args.term.now c.args.step.now c.in-Some.ensures c.in-Some-read.ensures.node c.args.sink)
+
+pub returns-in-Ok-clause-answer : goal.returns-in-Ok-clause-answer
+returns-in-Ok-clause-answer t c =
+    search (rules, follow_is (terms_of c.args.self.now) c.args.self.now.count (length_terms c.args.self.now.count c.args.self.now.bodies c.args.self.now.few) c.args.term.now c.args.step.now c.in-Some.ensures c.in-Some-read.ensures.node c.args.sink)
+
+pub returns-in-Err-clause-answer : goal.returns-in-Err-clause-answer
+returns-in-Err-clause-answer t c =
+    search (rules, follow_is (terms_of c.args.self.now) c.args.self.now.count (length_terms c.args.self.now.count c.args.self.now.bodies c.args.self.now.few) c.args.term.now c.args.step.now c.in-Some.ensures c.in-Some-read.ensures.node c.args.sink)
+
+pub returns-in-Ok-follow-clause-answer : goal.returns-in-Ok-follow-clause-answer
+returns-in-Ok-follow-clause-answer t c =
+    search (rules, follow_is (terms_of c.args.self.now) c.args.self.now.count (length_terms c.args.self.now.count c.args.self.now.bodies c.args.self.now.few) c.args.term.now c.args.step.now c.in-Some.ensures c.in-Some-read.ensures.node c.args.sink)
+
+pub returns-in-Err-follow-clause-answer : goal.returns-in-Err-follow-clause-answer
+returns-in-Err-follow-clause-answer t c =
+    search (rules, follow_is (terms_of c.args.self.now) c.args.self.now.count (length_terms c.args.self.now.count c.args.self.now.bodies c.args.self.now.few) c.args.term.now c.args.step.now c.in-Some.ensures c.in-Some-read.ensures.node c.args.sink)
+
+pub returns-in-Ok-follow-3-clause-answer : goal.returns-in-Ok-follow-3-clause-answer
+returns-in-Ok-follow-3-clause-answer t c =
+    search (rules, follow_is (terms_of c.args.self.now) c.args.self.now.count (length_terms c.args.self.now.count c.args.self.now.bodies c.args.self.now.few) c.args.term.now c.args.step.now c.in-Some.ensures c.in-Some-read.ensures.node c.args.sink)
+
+pub returns-in-Err-follow-3-clause-answer : goal.returns-in-Err-follow-3-clause-answer
+returns-in-Err-follow-3-clause-answer t c =
+    search (rules, follow_is (terms_of c.args.self.now) c.args.self.now.count (length_terms c.args.self.now.count c.args.self.now.bodies c.args.self.now.few) c.args.term.now c.args.step.now c.in-Some.ensures c.in-Some-read.ensures.node c.args.sink)
+
+pub returns-in-Err-follow-2-clause-answer : goal.returns-in-Err-follow-2-clause-answer
+returns-in-Err-follow-2-clause-answer t c =
+    search (rules, follow_is (terms_of c.args.self.now) c.args.self.now.count (length_terms c.args.self.now.count c.args.self.now.bodies c.args.self.now.few) c.args.term.now c.args.step.now c.in-Some.ensures c.in-Some-read.ensures.node c.args.sink)
+
+pub returns-in-Ok-follow-4-clause-answer : goal.returns-in-Ok-follow-4-clause-answer
+returns-in-Ok-follow-4-clause-answer t c =
+    search (rules, follow_is (terms_of c.args.self.now) c.args.self.now.count (length_terms c.args.self.now.count c.args.self.now.bodies c.args.self.now.few) c.args.term.now c.args.step.now c.in-Some.ensures c.in-Some-read.ensures.node c.args.sink)
+
+pub returns-in-Err-follow-4-clause-answer : goal.returns-in-Err-follow-4-clause-answer
+returns-in-Err-follow-4-clause-answer t c =
+    search (rules, follow_is (terms_of c.args.self.now) c.args.self.now.count (length_terms c.args.self.now.count c.args.self.now.bodies c.args.self.now.few) c.args.term.now c.args.step.now c.in-Some.ensures c.in-Some-read.ensures.node c.args.sink)
+
+pub returns-in-Ok-follow-5-clause-answer : goal.returns-in-Ok-follow-5-clause-answer
+returns-in-Ok-follow-5-clause-answer t c =
+    search (rules, follow_is (terms_of c.args.self.now) c.args.self.now.count (length_terms c.args.self.now.count c.args.self.now.bodies c.args.self.now.few) c.args.term.now c.args.step.now c.in-Some.ensures c.in-Some-read.ensures.node c.args.sink)
+
+pub returns-in-Err-follow-5-clause-answer : goal.returns-in-Err-follow-5-clause-answer
+returns-in-Err-follow-5-clause-answer t c =
+    search (rules, follow_is (terms_of c.args.self.now) c.args.self.now.count (length_terms c.args.self.now.count c.args.self.now.bodies c.args.self.now.few) c.args.term.now c.args.step.now c.in-Some.ensures c.in-Some-read.ensures.node c.args.sink)
+
+pub returns-in-Ok-follow-6-clause-answer : goal.returns-in-Ok-follow-6-clause-answer
+returns-in-Ok-follow-6-clause-answer t c =
+    search (rules, follow_is (terms_of c.args.self.now) c.args.self.now.count (length_terms c.args.self.now.count c.args.self.now.bodies c.args.self.now.few) c.args.term.now c.args.step.now c.in-Some.ensures c.in-Some-read.ensures.node c.args.sink)
+
+pub returns-in-Err-follow-6-clause-answer : goal.returns-in-Err-follow-6-clause-answer
+returns-in-Err-follow-6-clause-answer t c =
+    search (rules, follow_is (terms_of c.args.self.now) c.args.self.now.count (length_terms c.args.self.now.count c.args.self.now.bodies c.args.self.now.few) c.args.term.now c.args.step.now c.in-Some.ensures c.in-Some-read.ensures.node c.args.sink)

@@ -1,0 +1,41 @@
+-- The bodies of definitions, as strings and as terms. Assumes nothing.
+use Rattle.std.specs.Prelude.{ℕ, ◌-◌, Bool, true, false, cond, ◌&&◌, not, List, [], ◌∷◌, ◌++◌, length, map, replicate, is_some, Some, None, Ok, Err, Option, Result, nat_eq, nat_lt}
+use Rattle.std.specs.Result.{result_err}
+use Rattle.steps.specs.Meaning.{Str}
+use Rattle.ccs.specs.Syntax.{Term}
+use Rattle.ccs.specs.Syntax.Term.{nil}
+use Rattle.ccs.specs.Reading.{read_term}
+use Rattle.ccs.specs.System.{past}
+use Rattle.terms.specs.declared.terms.contents.BodyFault.{BodyFault}
+use Rattle.terms.specs.declared.terms.contents.BodyFault.TheVariants.{Full, NoBody}
+
+abbrev pub body_limit : ℕ
+body_limit = 255
+
+-- the first byte that fits no body over n definitions: a body is a term, and begins with no call
+abbrev pub body_fault : ℕ → Str → Option ℕ
+body_fault n [] = past body_limit [] (result_err (read_term n []))
+body_fault n (b ∷ s) = cond (nat_eq b 0x05) (Some 0) (past body_limit (b ∷ s) (result_err (read_term n (b ∷ s))))
+
+-- each is a body
+unfoldable pub sound_bodies_of : ℕ → List Str → Bool
+sound_bodies_of n [] = true
+sound_bodies_of n (s ∷ ss) = not (is_some (body_fault n s)) && sound_bodies_of n ss
+
+-- the term that a body spells
+abbrev pub body_in : ℕ → Str → Term
+body_in n s = elim (read_term n s) [ Ok p ↦ p | Err k ↦ nil ]
+
+-- n definitions, the first of which have these bodies; the others do nothing
+abbrev pub terms_in : ℕ → List Str → List Term
+terms_in n bodies = map (body_in n) bodies ++ replicate (n - length bodies) nil
+
+-- the next of n definitions is given its body, where one is left that has none
+abbrev pub add_fault : ℕ → List Str → Str → Option BodyFault
+add_fault n bodies s = cond (nat_lt (length bodies) n) (elim (body_fault n s) [ None ↦ None | Some k ↦ Some (NoBody k) ]) (Some Full)
+
+abbrev pub add_told : ℕ → List Str → Str → Result (Unit {0}) BodyFault
+add_told n bodies s = elim (add_fault n bodies s) [ None ↦ Ok tt | Some f ↦ Err f ]
+
+abbrev pub bodies_after : ℕ → List Str → Str → List Str
+bodies_after n bodies s = elim (add_fault n bodies s) [ None ↦ bodies ++ s ∷ [] | Some f ↦ bodies ]

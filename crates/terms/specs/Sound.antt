@@ -1,0 +1,66 @@
+-- Definitions whose bodies are sound make sound terms. Assumes nothing.
+use Rattle.std.specs.Prelude.{◌≡◌, ℕ, zero, suc, ◌-◌, ◌≤◌, Bool, true, false, cond, not, ◌&&◌, List, [], ◌∷◌, ◌++◌, length, map, replicate, is_some, Some, None, Ok, Err, Option, Result, nat_eq, nat_le, slice_index_or}
+use Rattle.std.specs.Result.{result_err}
+use Rattle.std.specs.Cmp.Derive.{both_true}
+use Rattle.std.proofs.Common.{sym, refl, ap, ◌∙◌, subst, arith, length-append}
+use Rattle.std.proofs.lemmas.List.{length-map, length-replicate}
+use Rattle.std.proofs.lemmas.Bool.{eq-eqb}
+use Rattle.steps.specs.Meaning.{Str}
+use Rattle.ccs.specs.Syntax.{Term}
+use Rattle.ccs.specs.Syntax.Term.{nil, prefix, par, sum, restrict, call}
+use Rattle.ccs.specs.Spelling.{term_bytes, sound_term}
+use Rattle.ccs.specs.Reading.{read, read_term}
+use Rattle.ccs.specs.Follow.{plain}
+use Rattle.ccs.specs.System.{past, body_of, sound_bodies}
+use Rattle.ccs.proofs.Cases.{both_of}
+use Rattle.ccs.proofs.TermReading.{read_is_term}
+use Rattle.terms.specs.Bodies.{body_limit, body_fault, sound_bodies_of, body_in, terms_in}
+
+pub length_terms : (n : ℕ) (ss : List Str) → length ss ≤ n → length (terms_in n ss) ≡ n
+length_terms n ss few = length-append (map (body_in n) ss) (replicate (n - length ss) nil) ∙ omega (arith, length-map ss (body_in n), length-replicate (n - length ss) nil, few)
+
+-- the term that a body spells, and that it is no call
+abbrev pub IsBody : ℕ → Str → Type 0
+IsBody n s = (p : Term) × (read_term n s ≡ Ok p) × (plain p ≡ true)
+
+begins_call : (p : Term) (b : ℕ) (s : Str) → term_bytes p ≡ b ∷ s → nat_eq b 0x05 ≡ false → plain p ≡ true
+unfolding term_bytes
+begins_call nil b s e f = refl
+begins_call (prefix a p) b s e f = refl
+begins_call (par p q) b s e f = refl
+begins_call (sum p q) b s e f = refl
+begins_call (restrict m p) b s e f = refl
+begins_call (call d) b s e f = let five : 0x05 ≡ b = cc e in absurd (cc (sym f ∙ eq-eqb b 0x05 (sym five)))
+
+pub is_body : (n : ℕ) (s : Str) → not (is_some (body_fault n s)) ≡ true → IsBody n s
+unfolding read
+is_body n [] e = absurd (cc e)
+is_body n (b ∷ s) e = by_byte (nat_eq b 0x05) refl e
+  where
+    by_reading : nat_eq b 0x05 ≡ false → (r : Result Term ℕ) → read_term n (b ∷ s) ≡ r → not (is_some (past body_limit (b ∷ s) (result_err r))) ≡ true → IsBody n (b ∷ s)
+    by_reading f (Ok p) g h = (p, g, begins_call p b s (read_is_term n (b ∷ s) p g).0 f)
+    by_reading f (Err k) g h = absurd (cc h)
+
+    by_byte : (c : Bool) → nat_eq b 0x05 ≡ c → not (is_some (cond c (Some 0) (past body_limit (b ∷ s) (result_err (read_term n (b ∷ s)))))) ≡ true → IsBody n (b ∷ s)
+    by_byte true f h = absurd (cc h)
+    by_byte false f h = by_reading f (read_term n (b ∷ s)) refl h
+
+pub body_is : (n : ℕ) (s : Str) (p : Term) → read_term n s ≡ Ok p → body_in n s ≡ p
+body_is n s p e = ap (λ r. elim r as (λ _. Term) [ Ok p ↦ p | Err k ↦ nil ]) e
+
+idle_sound : (n k : ℕ) → sound_bodies n (replicate k nil) ≡ true
+unfolding sound_bodies sound_term
+idle_sound n zero = refl
+idle_sound n (suc k) = idle_sound n k
+
+in_sound : (n k : ℕ) (ss : List Str) → sound_bodies_of n ss ≡ true → sound_bodies n (map (body_in n) ss ++ replicate k nil) ≡ true
+unfolding sound_bodies sound_bodies_of
+in_sound n k [] e = idle_sound n k
+in_sound n k (s ∷ ss) e =
+    let c = both_of (not (is_some (body_fault n s))) (sound_bodies_of n ss) e in
+    let b = is_body n s c.0 in
+    subst (λ p. sound_bodies n (p ∷ map (body_in n) ss ++ replicate k nil) ≡ true) (sym (body_is n s b.0 b.1)) (both_true (both_true b.2 (read_is_term n s b.0 b.1).1) (in_sound n k ss c.1))
+
+-- so the laws hold of them
+pub terms_sound : (n : ℕ) (ss : List Str) → length ss ≤ n → sound_bodies_of n ss ≡ true → sound_bodies (length (terms_in n ss)) (terms_in n ss) ≡ true
+terms_sound n ss few e = subst (λ m. sound_bodies m (terms_in n ss) ≡ true) (sym (length_terms n ss few)) (in_sound n (n - length ss) ss e)

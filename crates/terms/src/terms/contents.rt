@@ -1,0 +1,90 @@
+// What definitions hold: making them, giving one its body, and the node that a term moves by.
+ghost use Rattle.std.specs.Prelude.{◌≡◌, false, [], min, is_ok};
+ghost use Rattle.std.specs.List.{slice_get};
+ghost use Rattle.ccs.specs.Reading.{read_term};
+ghost use Rattle.nodes.specs.Lent.{part_view};
+ghost use Rattle.nodes.specs.Nodes.{TermNode, term_view};
+ghost use Rattle.terms.specs.Bodies.{body_fault, add_told, bodies_after};
+ghost use Rattle.terms.specs.Contents.{terms_of};
+ghost use Rattle.terms.specs.Follow.{unfolded};
+
+use crate::place::past;
+use crate::terms::{DEFINITION_LIMIT, Terms};
+use byte_strings::held::Held;
+use byte_strings::list::FixedList;
+use nodes::term::Term;
+
+// Why a body is refused.
+#[derive(Clone, Copy)]
+pub enum BodyFault {
+    // All definitions have their bodies.
+    Full,
+    // No body: the place of the first byte that fits none.
+    NoBody(u16),
+}
+
+impl Terms {
+    // Terms over so many definitions, sixteen at most, whose bodies are still to come.
+    pub fn new(count: u8) -> Terms
+        ensures count { result.count ≡ min count 16 }
+        ensures bodies { result.bodies ≡ [] }
+    {
+        Terms {
+            count: count.min(DEFINITION_LIMIT),
+            bodies: FixedList::empty(),
+        }
+    }
+
+    // Gives the next definition its body, or refuses it and stays as it is.
+    pub fn add(&mut self, body: &[u8]) -> Result<(), BodyFault>
+        ensures answer { result ≡ add_told self.old.count self.old.bodies body.now }
+        ensures count { self.new.count ≡ self.old.count }
+        ensures bodies { self.new.bodies ≡ bodies_after self.old.count self.old.bodies body.now }
+    {
+        if self.bodies.items().len() >= usize::from(self.count) {
+            return Err(BodyFault::Full);
+        }
+        if let Some(place) = body_fault(self.count, body) {
+            return Err(BodyFault::NoBody(place));
+        }
+        let Some(held) = Held::of(body) else {
+            return Err(BodyFault::NoBody(255));
+        };
+        self.bodies.push(held);
+        Ok(())
+    }
+
+    // The node of a term that is no call: its own, or that of the body that it calls.
+    pub(crate) fn unfolded<'a>(&'a self, term: &'a [u8]) -> Option<Term<'a>>
+        ensures { TermNode self.now.count (term_view result) (unfolded (terms_of self.now) term.now) }
+    {
+        let Some(node) = Term::read(self.count, term) else {
+            return None;
+        };
+        let Some(definition) = node.called() else {
+            return Some(node);
+        };
+        let Some(body) = self.body(definition) else {
+            return Some(Term::Nil);
+        };
+        Term::read(self.count, body)
+    }
+
+    // The body of a definition, if it has come.
+    fn body(&self, definition: u8) -> Option<&[u8]>
+        ensures { part_view result ≡ slice_get self.now.bodies definition }
+    {
+        let body = self.bodies.items().get(usize::from(definition))?;
+        Some(body.items())
+    }
+}
+
+// The first byte that fits no body, of a string that is to be one: a body is a term and no call, and has at most 255 bytes.
+fn body_fault(count: u8, body: &[u8]) -> Option<u16>
+    ensures { result ≡ body_fault count body.now }
+{
+    if let [0x05, ..] = body {
+        return Some(0);
+    }
+    past(255, body, Term::fault(count, body))
+}
