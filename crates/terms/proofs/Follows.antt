@@ -1,9 +1,9 @@
 -- What the nodes of a term and of a proof tell of the state that follows. Assumes nothing.
-use Rattle.std.proofs.Common.{◌≡◌, ℕ, suc, ◌+◌, Bool, true, false, cond, List, [], ◌∷◌, ◌++◌, length, Some, None, Ok, Err, Option, Result, nat_eq, sym, refl, ap, ap₂, ◌∙◌, subst, arith}
+use Rattle.std.proofs.Common.{◌≡◌, ℕ, ◌+◌, Bool, true, false, cond, List, ◌∷◌, ◌++◌, length, Some, None, Ok, Err, Option, Result, nat_eq, sym, refl, ap, ap₂, ◌∙◌, subst, arith}
 use Rattle.std.proofs.lemmas.Bool.{eqb-true}
 use Rattle.steps.specs.Meaning.{Str}
 use Rattle.ccs.specs.Syntax.{Term, Proof}
-use Rattle.ccs.specs.Syntax.Term.{nil, prefix, par, sum, restrict, call}
+use Rattle.ccs.specs.Syntax.Term.{par, restrict}
 use Rattle.ccs.specs.Syntax.Proof.{act, on_left, on_right, both, choose_left, choose_right, under}
 use Rattle.ccs.specs.Spelling.{term_bytes, proof_bytes}
 use Rattle.ccs.specs.Reading.{read_term, read_proof}
@@ -13,8 +13,8 @@ use Rattle.ccs.proofs.TermReading.{read_is_term}
 use Rattle.ccs.proofs.ProofReading.{read_is_proof}
 use Rattle.nodes.specs.Nodes.{NodeOfTerm, NodeOfProof, TermNode, ProofNode, rest_of, par_of, sum_of, restricted_of}
 use Rattle.nodes.specs.Nodes.NodeOfProof.{Act, Left, Right, Both, ChooseLeft, ChooseRight, Under}
-use Rattle.nodes.specs.Nodes.TermNode.{no_term, nil_node, prefix_node, par_node, sum_node, restrict_node, call_node}
-use Rattle.nodes.specs.Nodes.ProofNode.{no_proof, act_node, left_node, right_node, both_node, choose_left_node, choose_right_node, under_node}
+use Rattle.nodes.specs.Nodes.TermNode.{nil_node, prefix_node, par_node, sum_node, restrict_node, call_node}
+use Rattle.nodes.specs.Nodes.ProofNode.{act_node, left_node, right_node, both_node, choose_left_node, choose_right_node, under_node}
 use Rattle.residuals.specs.declared.sink.Sink.{Sink}
 use Rattle.residuals.specs.Sink.{with_byte, poured}
 use Rattle.residuals.proofs.Poured.{poured_on, byte_before}

@@ -1,3 +1,4 @@
 pub mod Follows
 pub mod Unfolding
 pub mod Added
+pub mod Answered

@@ -1,9 +1,9 @@
 -- The term that a call stands for. Assumes nothing.
-use Rattle.std.proofs.Common.{◌≡◌, ℕ, zero, suc, ◌-◌, ◌<◌, ◌≤◌, Bool, true, false, cond, not, ◌&&◌, List, [], ◌∷◌, ◌++◌, length, map, replicate, is_some, Some, None, Ok, Err, Option, Result, slice_index_or, sym, refl, ap, ◌∙◌, subst, arith}
+use Rattle.std.proofs.Common.{◌≡◌, ℕ, zero, suc, ◌-◌, ◌≤◌, true, not, List, [], ◌∷◌, ◌++◌, length, map, replicate, is_some, Some, None, Ok, Err, Option, Result, slice_index_or, sym, refl, ap, ◌∙◌, subst}
 use Rattle.std.specs.List.{slice_get}
 use Rattle.steps.specs.Meaning.{Str}
 use Rattle.ccs.specs.Syntax.{Term}
-use Rattle.ccs.specs.Syntax.Term.{nil, prefix, par, sum, restrict, call}
+use Rattle.ccs.specs.Syntax.Term.{nil}
 use Rattle.ccs.specs.Reading.{read_term}
 use Rattle.ccs.specs.Follow.{unfold_call}
 use Rattle.ccs.specs.System.{body_of}

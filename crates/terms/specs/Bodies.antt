@@ -1,5 +1,5 @@
 -- The bodies of definitions, as strings and as terms. Assumes nothing.
-use Rattle.std.specs.Prelude.{ℕ, ◌-◌, Bool, true, false, cond, ◌&&◌, not, List, [], ◌∷◌, ◌++◌, length, map, replicate, is_some, Some, None, Ok, Err, Option, Result, nat_eq, nat_lt}
+use Rattle.std.specs.Prelude.{ℕ, ◌-◌, Bool, true, cond, ◌&&◌, not, List, [], ◌∷◌, ◌++◌, length, map, replicate, is_some, Some, None, Ok, Err, Option, Result, nat_eq, nat_lt}
 use Rattle.std.specs.Result.{result_err}
 use Rattle.steps.specs.Meaning.{Str}
 use Rattle.ccs.specs.Syntax.{Term}

@@ -2,3 +2,4 @@ pub mod Bodies
 pub mod Contents
 pub mod Sound
 pub mod Follow
+pub mod Answers

@@ -1,5 +1,5 @@
 -- Definitions whose bodies are sound make sound terms. Assumes nothing.
-use Rattle.std.specs.Prelude.{◌≡◌, ℕ, zero, suc, ◌-◌, ◌≤◌, Bool, true, false, cond, not, ◌&&◌, List, [], ◌∷◌, ◌++◌, length, map, replicate, is_some, Some, None, Ok, Err, Option, Result, nat_eq, nat_le, slice_index_or}
+use Rattle.std.specs.Prelude.{◌≡◌, ℕ, zero, suc, ◌-◌, ◌≤◌, Bool, true, false, cond, not, List, [], ◌∷◌, ◌++◌, length, map, replicate, is_some, Some, Ok, Err, Result, nat_eq}
 use Rattle.std.specs.Result.{result_err}
 use Rattle.std.specs.Cmp.Derive.{both_true}
 use Rattle.std.proofs.Common.{sym, refl, ap, ◌∙◌, subst, arith, length-append}
@@ -11,7 +11,7 @@ use Rattle.ccs.specs.Syntax.Term.{nil, prefix, par, sum, restrict, call}
 use Rattle.ccs.specs.Spelling.{term_bytes, sound_term}
 use Rattle.ccs.specs.Reading.{read, read_term}
 use Rattle.ccs.specs.Follow.{plain}
-use Rattle.ccs.specs.System.{past, body_of, sound_bodies}
+use Rattle.ccs.specs.System.{past, sound_bodies}
 use Rattle.ccs.proofs.Cases.{both_of}
 use Rattle.ccs.proofs.TermReading.{read_is_term}
 use Rattle.terms.specs.Bodies.{body_limit, body_fault, sound_bodies_of, body_in, terms_in}

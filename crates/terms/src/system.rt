@@ -1,0 +1,110 @@
+// The step system of terms over some definitions: its states are terms, its steps proper proofs.
+ghost use Rattle.std.specs.Prelude.{◌≡◌, length};
+ghost use Rattle.byte_strings.specs.Buffer.{count, kept, count_some, kept_some};
+ghost use Rattle.ccs.specs.System.{terms_transitions, terms_independence};
+ghost use Rattle.ccs.proofs.System.{terms_laws};
+ghost use Rattle.terms.specs.Contents.{terms_of};
+ghost use Rattle.terms.specs.Sound.{terms_sound};
+ghost use Rattle.terms.specs.Answers.{step_checked, state_put, step_put};
+
+use crate::place::past;
+use crate::terms::Terms;
+use nodes::proof::Proof;
+use residuals::improper::improper;
+use residuals::label::label;
+use residuals::origin::origin;
+use residuals::residual::residual;
+use residuals::sink::Sink;
+use steps::fault::{MaskFault, SystemFault};
+use steps::label::Label;
+use steps::system::StepSystem;
+
+// Refuses a string that is no step, or a longer one than a step may be.
+fn check_step(step: &[u8]) -> Result<(), SystemFault>
+    ensures { result ≡ step_checked step.now }
+{
+    if let Some(place) = past(64, step, Proof::fault(step)) {
+        return Err(SystemFault::NoStep(place));
+    }
+    match improper(step) {
+        // It fits, so no `try_from`: it is within a step.
+        Some(place) => Err(SystemFault::NoStep(place as u16)),
+        None => Ok(()),
+    }
+}
+
+// Writes a state over the front of the buffer and answers its length, or refuses one that is too long.
+fn put_state(state: &Sink, out: &mut [u8]) -> Result<usize, MaskFault>
+    ensures answer { result ≡ count (state_put state.now (length out.old)) }
+    ensures buffer { out.new ≡ kept (state_put state.now (length out.old)) out.old }
+{
+    match state.put(256, out) {
+        Ok(len) => Ok(len),
+        Err(needed) => Err(MaskFault::Inner(SystemFault::StateTooLong(needed))),
+    }
+}
+
+// The same of a step that is answered, or that there is none.
+fn put_step(step: Option<Sink>, out: &mut [u8]) -> Result<Option<usize>, MaskFault>
+    ensures answer { result ≡ count_some (step_put step (length out.old)) }
+    ensures buffer { out.new ≡ kept_some (step_put step (length out.old)) out.old }
+{
+    let Some(step) = step else {
+        return Ok(None);
+    };
+    match step.put(64, out) {
+        Ok(len) => Ok(Some(len)),
+        Err(needed) => Err(MaskFault::Inner(SystemFault::StepTooLong(needed))),
+    }
+}
+
+impl StepSystem for Terms {
+    ghost transitions = { λ t. terms_transitions (terms_of t) };
+
+    ghost independence = { λ _. terms_independence };
+
+    ghost lawful = { λ t. terms_laws (terms_of t) (terms_sound t.count t.bodies t.few t.sound) };
+
+    fn state(&self, state: &[u8]) -> Result<(), MaskFault> {
+        self.check_state(state)?;
+        Ok(())
+    }
+
+    fn step(&self, step: &[u8]) -> Result<(), MaskFault> {
+        check_step(step)?;
+        Ok(())
+    }
+
+    fn label(&self, step: &[u8]) -> Result<Label, MaskFault> {
+        check_step(step)?;
+        Ok(label(step))
+    }
+
+    fn next(&self, state: &[u8], step: &[u8], out: &mut [u8]) -> Result<usize, MaskFault> {
+        check_step(step)?;
+        self.check_state(state)?;
+        match self.follow(state, step, Sink::new()) {
+            Ok(next) => put_state(&next, out),
+            // It fits, so no `try_from`: it is within a step.
+            Err(place) => Err(MaskFault::Inner(SystemFault::Impossible(place as u16))),
+        }
+    }
+
+    fn independent(&self, x: &[u8], y: &[u8]) -> Result<bool, MaskFault> {
+        check_step(x)?;
+        check_step(y)?;
+        Ok(residual(x, y, Sink::new()).is_some())
+    }
+
+    fn residual(&self, x: &[u8], y: &[u8], out: &mut [u8]) -> Result<Option<usize>, MaskFault> {
+        check_step(x)?;
+        check_step(y)?;
+        put_step(residual(x, y, Sink::new()), out)
+    }
+
+    fn back(&self, x: &[u8], z: &[u8], out: &mut [u8]) -> Result<Option<usize>, MaskFault> {
+        check_step(x)?;
+        check_step(z)?;
+        put_step(origin(x, z, Sink::new()), out)
+    }
+}

@@ -4,6 +4,7 @@ ghost use Rattle.std.specs.List.{slice_get};
 ghost use Rattle.ccs.specs.Reading.{read_term};
 ghost use Rattle.nodes.specs.Lent.{part_view};
 ghost use Rattle.nodes.specs.Nodes.{TermNode, term_view};
+ghost use Rattle.terms.specs.Answers.{state_checked};
 ghost use Rattle.terms.specs.Bodies.{body_fault, add_told, bodies_after};
 ghost use Rattle.terms.specs.Contents.{terms_of};
 ghost use Rattle.terms.specs.Follow.{unfolded};
@@ -13,6 +14,7 @@ use crate::terms::{DEFINITION_LIMIT, Terms};
 use byte_strings::held::Held;
 use byte_strings::list::FixedList;
 use nodes::term::Term;
+use steps::fault::SystemFault;
 
 // Why a body is refused.
 #[derive(Clone, Copy)]
@@ -52,6 +54,16 @@ impl Terms {
         };
         self.bodies.push(held);
         Ok(())
+    }
+
+    // Refuses a string that is no state, or a longer one than a state may be.
+    pub(crate) fn check_state(&self, state: &[u8]) -> Result<(), SystemFault>
+        ensures { result ≡ state_checked (terms_of self.now) state.now }
+    {
+        match past(256, state, Term::fault(self.count, state)) {
+            Some(place) => Err(SystemFault::NoState(place)),
+            None => Ok(()),
+        }
     }
 
     // The node of a term that is no call: its own, or that of the body that it calls.

@@ -1,5 +1,4 @@
-use Rattle.std.proofs.Common.{◌<◌, length, ap, sym, ◌∙◌, subst, arith}
-use Rattle.terms.specs.Bodies.{sound_bodies_of}
+use Rattle.std.proofs.Common.{◌<◌, length, ap, ◌∙◌, arith}
 use Rattle.terms.proofs.Added.{held_is, stored_few, stored_sound, stored_after}
 use Rattle.terms.proofs.terms.Terms.add.Goals as goal
 

@@ -1,4 +1,4 @@
-use Rattle.std.proofs.Common.{refl, ap, sym, ◌∙◌, length, arith}
+use Rattle.std.proofs.Common.{ap, length, arith}
 use Rattle.terms.specs.Bodies.{sound_bodies_of}
 use Rattle.terms.proofs.terms.Terms.new.Goals as goal
 

@@ -1,0 +1,29 @@
+-- What is checked of the strings that are given, and what is answered of a sink. Assumes nothing.
+use Rattle.std.specs.Prelude.{ℕ, List, [], Some, None, Ok, Err, Option, Result}
+use Rattle.steps.specs.Meaning.{Str}
+use Rattle.steps.specs.declared.fault.MaskFault.{MaskFault}
+use Rattle.steps.specs.declared.fault.MaskFault.TheVariants.{Inner}
+use Rattle.steps.specs.declared.fault.SystemFault.{SystemFault}
+use Rattle.steps.specs.declared.fault.SystemFault.TheVariants.{NoState, NoStep, StateTooLong, StepTooLong}
+use Rattle.ccs.specs.Syntax.{Term}
+use Rattle.ccs.specs.System.{terms_transitions}
+use Rattle.residuals.specs.declared.sink.Sink.{Sink}
+use Rattle.residuals.specs.Sink.{put_told}
+
+abbrev pub checked : (ℕ → SystemFault) → Option ℕ → Result (Unit {0}) SystemFault
+checked f None = Ok tt
+checked f (Some k) = Err (f k)
+
+abbrev pub state_checked : List Term → Str → Result (Unit {0}) SystemFault
+state_checked ds s = checked NoState ((terms_transitions ds).bad_state s)
+
+-- of a step it is the same whatever the definitions are
+abbrev pub step_checked : Str → Result (Unit {0}) SystemFault
+step_checked x = checked NoStep ((terms_transitions []).bad_step x)
+
+abbrev pub state_put : Sink → ℕ → Result Str MaskFault
+state_put s n = elim (put_told s 256 n) [ Ok w ↦ Ok w | Err k ↦ Err (Inner (StateTooLong k)) ]
+
+abbrev pub step_put : Option Sink → ℕ → Result (Option Str) MaskFault
+step_put None n = Ok None
+step_put (Some s) n = elim (put_told s 64 n) [ Ok w ↦ Ok (Some w) | Err k ↦ Err (Inner (StepTooLong k)) ]
