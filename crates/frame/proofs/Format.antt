@@ -16,7 +16,7 @@ use Rattle.frame.specs.Reading.{Layout, layout_told, few, rules_told, parts_told
 use Rattle.frame.specs.Format.{AreBytes, ReadsFrames, MalformedAt, PlacesMalformed, BadAt, PlacesBadSetups, PlacesBodies}
 use Rattle.frame.specs.Format.BadAt.{kind, pairs, names, count}
 use Rattle.frame.proofs.Calls.{within_told}
-use Rattle.frame.proofs.Layouts.{byte_of, laid, layout_built, Tells, layout_tells, no_layout, ends}
+use Rattle.frame.proofs.Layouts.{byte_of, no_items, laid, layout_built, Tells, layout_tells, no_layout, ends}
 use Rattle.frame.proofs.Places.{definitions-append}
 
 -- first bytes
@@ -202,7 +202,7 @@ rules_right ps ns system l =
     bad_names p h = names ns system (ap (λ t. bytes_of (setup t ns system)) (sym p)) (subst (λ t. LaidOut (setup t ns system)) p l) h
 
     bad_count : ps ≡ [] → ns ≡ [] → Many system → BadAt (bytes_of (setup ps ns system)) 4
-    bad_count p n h = count system (ap (λ t. bytes_of (setup [] t system)) (sym n) ∙ ap (λ t. bytes_of (setup t ns system)) (sym p)) (subst (λ t. LaidOut (setup t ns system)) p l) h
+    bad_count p n h = count system (ap (λ t. bytes_of (setup [] t system)) (sym n) ∙ ap (λ t. bytes_of (setup t ns system)) (sym p)) (subst (λ t. LaidOut (setup [] t system)) n (subst (λ t. LaidOut (setup t ns system)) p l)) h
 
 -- bytes behind the parts of a setup
 behind_right : (k : Kind) (ps ns : List ℕ) (system : SystemView) (t : List ℕ) (p : ℕ) → kind_of system ≡ byte_of k → LaidOut (setup ps ns system) → 0 < length t → p ≡ length (setup_bytes ps ns system) + 2 → MalformedAt (0xA0 ∷ byte_of k ∷ (setup_bytes ps ns system ++ t)) p
@@ -256,7 +256,7 @@ of_kind k j s h is =
     subst (λ i. Right (0xA0 ∷ i ∷ s) (parts_told (length s + 2) (layout_told k s))) (sym (eqb-true _ _ is)) (parts_right k s (layout_told k s) refl (layout_tells k s rest))
 
 setup_right : (rest : List ℕ) → AreBytes (0xA0 ∷ rest) → Right (0xA0 ∷ rest) (setup_told rest)
-setup_right [] h = lone_right 0xA0 (setup [] [] (net []), 2 ∷ 0 ∷ 0 ∷ 0 ∷ [], ((0, refl), (0, refl)), refl)
+setup_right [] h = lone_right 0xA0 (setup [] [] (net []), 2 ∷ 0 ∷ 0 ∷ 0 ∷ [], (no_items 2, no_items 1, no_items 17), refl)
 setup_right (k ∷ s) h =
     cond_both (eqb k 1) _ _ (Right (0xA0 ∷ k ∷ s)) (of_kind Terms k s h) (λ no_terms.
     cond_both (eqb k 2) _ _ (Right (0xA0 ∷ k ∷ s)) (of_kind Net k s h) (λ no_net.

@@ -20,9 +20,11 @@ use Rattle.frame.proofs.Bodies.{all_there, bodies_end, bodies_more, behind_end, 
 abbrev short : List ℕ → Type 0
 short body = length body ≤ 255
 
-first_byte : (s : List ℕ) → AreBytes s → get_or s 0 0 ≤ 255
-first_byte [] h = omega arith
-first_byte (b ∷ s) h = let small : b < 256 = All-head (λ b. b < 256) b s h in omega arith
+is_short : (body : List ℕ) → Whole 1 body → short body
+is_short body (n, few, e) = omega arith
+
+first_byte : (b : ℕ) (s : List ℕ) → AreBytes (b ∷ s) → b ≤ 255
+first_byte b s h = let small : b < 256 = All-head (λ b. b < 256) b s h in omega arith
 
 bytes_behind : (s front rest : List ℕ) → s ≡ front ++ rest → AreBytes s → AreBytes rest
 bytes_behind s front rest is h = subst AreBytes (ap (drop (length front)) is ∙ drop_at front rest (length front) refl) (All-drop (λ b. b < 256) (length front) s h)
@@ -36,32 +38,32 @@ part_built size items rest exact =
     let back : drop (length items / size * size) (items ++ rest) ≡ rest = drop_at items rest (length items / size * size) (sym exact) in
     rw (fits, front, back) refl
 
-pub part_sound : (size : ℕ) → 0 < size → (s items rest : List ℕ) → part_told size s ≡ Some (items, rest) → (s ≡ counted size items ++ rest) × Whole size items
-part_sound size pos [] items rest e = absurd (none-some _ e)
-part_sound size pos (count ∷ s) items rest e = cases (leb (count * size) (length s)) refl e
+pub part_sound : (size : ℕ) → 0 < size → (s items rest : List ℕ) → AreBytes s → part_told size s ≡ Some (items, rest) → (s ≡ counted size items ++ rest) × Whole size items
+part_sound size pos [] items rest h e = absurd (none-some _ e)
+part_sound size pos (count ∷ s) items rest h e = cases (leb (count * size) (length s)) refl e
   where
     cases : (t : Bool) → leb (count * size) (length s) ≡ t → cond {A = Option (List ℕ × List ℕ)} t (Some (take (count * size) s, drop (count * size) s)) None ≡ Some (items, rest) → (count ∷ s ≡ counted size items ++ rest) × Whole size items
     cases false is h = absurd (none-some _ h)
-    cases true is h =
-        let front : take (count * size) s ≡ items = ap (λ (p : List ℕ × List ℕ). p.0) (same_Some _ _ h) in
-        let back : drop (count * size) s ≡ rest = ap (λ (p : List ℕ × List ℕ). p.1) (same_Some _ _ h) in
+    cases true is same =
+        let front : take (count * size) s ≡ items = ap (λ (p : List ℕ × List ℕ). p.0) (same_Some _ _ same) in
+        let back : drop (count * size) s ≡ rest = ap (λ (p : List ℕ × List ℕ). p.1) (same_Some _ _ same) in
         let len : length items ≡ count * size = ap length (sym front) ∙ length-take-le (count * size) s (leb-true _ _ is) in
         let n : length items / size ≡ count = ap (λ k. k / size) len ∙ mul-div_cancel count pos in
         let whole : s ≡ items ++ rest = sym (take-append-drop (count * size) s) ∙ (ap (λ t. t ++ drop (count * size) s) front ∙ ap (λ t. items ++ t) back) in
-        (ap (λ k. k ∷ s) (sym n) ∙ ap (λ t. length items / size ∷ t) whole, (count, len ∙ mul_comm count size))
+        (ap (λ k. k ∷ s) (sym n) ∙ ap (λ t. length items / size ∷ t) whole, (count, first_byte count s h, len ∙ mul_comm count size))
 
--- where bytes are missing, counted items go on from those that are there: as many as their first byte says
-pub part_missing : (size : ℕ) → 0 < size → (s : List ℕ) → part_told size s ≡ None → (items : List ℕ) × (more : List ℕ) × (length items ≡ size * get_or s 0 0) × (counted size items ≡ s ++ more)
-part_missing size pos [] e = ([], 0 / size ∷ [], omega arith, refl)
-part_missing size pos (count ∷ s) e = cases (leb (count * size) (length s)) refl e
+-- where bytes are missing, counted items go on from those that are there
+pub part_missing : (size : ℕ) → 0 < size → (s : List ℕ) → AreBytes s → part_told size s ≡ None → (items : List ℕ) × (more : List ℕ) × Whole size items × (counted size items ≡ s ++ more)
+part_missing size pos [] h e = ([], 0 / size ∷ [], (0, omega arith, omega arith), refl)
+part_missing size pos (count ∷ s) h e = cases (leb (count * size) (length s)) refl e
   where
-    cases : (t : Bool) → leb (count * size) (length s) ≡ t → cond {A = Option (List ℕ × List ℕ)} t (Some (take (count * size) s, drop (count * size) s)) None ≡ None → (items : List ℕ) × (more : List ℕ) × (length items ≡ size * count) × (counted size items ≡ (count ∷ s) ++ more)
-    cases true is h = absurd (none-some _ (sym h))
-    cases false is h =
+    cases : (t : Bool) → leb (count * size) (length s) ≡ t → cond {A = Option (List ℕ × List ℕ)} t (Some (take (count * size) s, drop (count * size) s)) None ≡ None → (items : List ℕ) × (more : List ℕ) × Whole size items × (counted size items ≡ (count ∷ s) ++ more)
+    cases true is none = absurd (none-some _ (sym none))
+    cases false is none =
         let more : List ℕ = replicate (count * size - length s) 0 in
         let len : length (s ++ more) ≡ count * size = omega (arith, length-append s more, length-replicate {A = ℕ} (count * size - length s) 0, leb-false _ _ is) in
         let n : length (s ++ more) / size ≡ count = ap (λ k. k / size) len ∙ mul-div_cancel count pos in
-        (s ++ more, more, len ∙ mul_comm count size, ap (λ k. k ∷ (s ++ more)) n)
+        (s ++ more, more, (count, first_byte count s h, len ∙ mul_comm count size), ap (λ k. k ∷ (s ++ more)) n)
 
 -- definitions
 
@@ -88,12 +90,11 @@ definitions_sound (suc n) s rest h e = cases (definitions_sound n) (part_told 1 
     cases : ((t rest : List ℕ) → AreBytes t → behind_told n t ≡ Some rest → (t ≡ definitions (bodies n t) ++ rest) × All short (bodies n t)) → (o : Option (List ℕ × List ℕ)) → part_told 1 s ≡ o → (s ≡ definitions (bodies (suc n) s) ++ rest) × All short (bodies (suc n) s)
     cases sound None is = absurd (none-some _ (sym (behind_missing (suc n) n s (omega arith) is) ∙ e))
     cases sound (Some (b, t)) is =
-        let (goes, w) = part_sound 1 (omega arith) s b t is in
-        let few : length b ≤ 255 = omega (arith, first_byte s h, ap (λ u. get_or u 0 0) goes) in
+        let (goes, w) = part_sound 1 (omega arith) s b t h is in
         let (later, all) = sound t rest (bytes_behind s (counted 1 b) t goes h) (sym (behind_more (suc n) n s b t (omega arith) is) ∙ e) in
         let more : bodies (suc n) s ≡ b ∷ bodies n t = bodies_more (suc n) n s b t (omega arith) is in
         let regroup : counted 1 b ++ (definitions (bodies n t) ++ rest) ≡ (counted 1 b ++ definitions (bodies n t)) ++ rest = sym (append_assoc (counted 1 b) (definitions (bodies n t)) rest) in
-        (goes ∙ ap (λ u. counted 1 b ++ u) later ∙ regroup ∙ ap (λ bs. definitions bs ++ rest) (sym more), All-same short (bodies (suc n) s) (b ∷ bodies n t) more (All-cons short b (bodies n t) few all))
+        (goes ∙ ap (λ u. counted 1 b ++ u) later ∙ regroup ∙ ap (λ bs. definitions bs ++ rest) (sym more), All-same short (bodies (suc n) s) (b ∷ bodies n t) more (All-cons short b (bodies n t) (is_short b w) all))
 
 -- so many definitions with nothing in them
 blanks : ℕ → List (List ℕ)
@@ -107,16 +108,14 @@ definitions_missing (suc n) s h e = cases (definitions_missing n) (part_told 1 s
   where
     cases : ((t : List ℕ) → AreBytes t → behind_told n t ≡ None → (bs : List (List ℕ)) × (more : List ℕ) × (length bs ≡ n) × All short bs × (definitions bs ≡ t ++ more)) → (o : Option (List ℕ × List ℕ)) → part_told 1 s ≡ o → (bs : List (List ℕ)) × (more : List ℕ) × (length bs ≡ suc n) × All short bs × (definitions bs ≡ s ++ more)
     cases missing None is =
-        let (b, more, len, goes) = part_missing 1 (omega arith) s is in
-        let few : length b ≤ 255 = omega (arith, first_byte s h) in
+        let (b, more, w, goes) = part_missing 1 (omega arith) s h is in
         let count : length (b ∷ blanks n) ≡ suc n = omega (arith, length-replicate {A = List ℕ} n []) in
-        (b ∷ blanks n, more ++ definitions (blanks n), count, All-cons short b (blanks n) few (All-replicate short n [] (omega arith)), ap (λ u. u ++ definitions (blanks n)) goes ∙ append_assoc s more (definitions (blanks n)))
+        (b ∷ blanks n, more ++ definitions (blanks n), count, All-cons short b (blanks n) (is_short b w) (All-replicate short n [] (omega arith)), ap (λ u. u ++ definitions (blanks n)) goes ∙ append_assoc s more (definitions (blanks n)))
     cases missing (Some (b, t)) is =
-        let (goes, w) = part_sound 1 (omega arith) s b t is in
-        let few : length b ≤ 255 = omega (arith, first_byte s h, ap (λ u. get_or u 0 0) goes) in
+        let (goes, w) = part_sound 1 (omega arith) s b t h is in
         let (bs, more, count, all, later) = missing t (bytes_behind s (counted 1 b) t goes h) (sym (behind_more (suc n) n s b t (omega arith) is) ∙ e) in
         let longer : length (b ∷ bs) ≡ suc n = omega arith in
-        (b ∷ bs, more, longer, All-cons short b bs few all, ap (λ u. counted 1 b ++ u) later ∙ sym (append_assoc (counted 1 b) t more) ∙ ap (λ u. u ++ more) (sym goes))
+        (b ∷ bs, more, longer, All-cons short b bs (is_short b w) all, ap (λ u. counted 1 b ++ u) later ∙ sym (append_assoc (counted 1 b) t more) ∙ ap (λ u. u ++ more) (sym goes))
 
 -- systems
 
@@ -124,14 +123,14 @@ abbrev pub byte_of : Kind → ℕ
 byte_of Terms = 1
 byte_of Net = 2
 
-exact_2 : (items : List ℕ) → Whole 2 items → length items / 2 * 2 ≡ length items
-exact_2 items (n, e) = omega arith
-
-exact_17 : (items : List ℕ) → Whole 17 items → length items / 17 * 17 ≡ length items
-exact_17 items (n, e) = omega arith
-
 exact_1 : (items : List ℕ) → length items / 1 * 1 ≡ length items
 exact_1 items = omega arith
+
+exact_2 : (items : List ℕ) → Whole 2 items → length items / 2 * 2 ≡ length items
+exact_2 items (n, few, e) = omega arith
+
+exact_17 : (items : List ℕ) → Whole 17 items → length items / 17 * 17 ≡ length items
+exact_17 items (n, few, e) = omega arith
 
 system_built : (k : Kind) (system : SystemView) (t : List ℕ) → kind_of system ≡ byte_of k → WholeSystem system → system_told k (system_bytes system ++ t) ≡ Some (system, t)
 system_built Terms (terms bs) t is w =
@@ -152,7 +151,7 @@ system_tells Terms [] h = (terms [], 0 ∷ [], refl, (omega arith, All-nil short
 system_tells Terms (count ∷ s) h = cases (behind_told count s) refl
   where
     few : count ≤ 255
-    few = first_byte (count ∷ s) h
+    few = first_byte count s h
 
     cases : (o : Option (List ℕ)) → behind_told count s ≡ o → SystemTells Terms (count ∷ s) (with_behind count s o)
     cases None is =
@@ -165,8 +164,8 @@ system_tells Terms (count ∷ s) h = cases (behind_told count s) refl
 system_tells Net s h = cases (part_told 17 s) refl
   where
     cases : (o : Option (List ℕ × List ℕ)) → part_told 17 s ≡ o → SystemTells Net s (net_part o)
-    cases None is = let (es, more, len, goes) = part_missing 17 (omega arith) s is in (net es, more, refl, (get_or s 0 0, len), goes)
-    cases (Some (es, t)) is = let (goes, w) = part_sound 17 (omega arith) s es t is in (refl, w, goes)
+    cases None is = let (es, more, w, goes) = part_missing 17 (omega arith) s h is in (net es, more, refl, w, goes)
+    cases (Some (es, t)) is = let (goes, w) = part_sound 17 (omega arith) s es t h is in (refl, w, goes)
 
 -- setups
 
@@ -174,7 +173,7 @@ abbrev pub laid : List ℕ → List ℕ → SystemView → List ℕ → Layout
 laid ps ns system t = record { pairs = ps; names = ns; system = system; behind = t }
 
 pub layout_built : (k : Kind) (ps ns : List ℕ) (system : SystemView) (t : List ℕ) → kind_of system ≡ byte_of k → LaidOut (setup ps ns system) → layout_told k (setup_bytes ps ns system ++ t) ≡ Some (laid ps ns system t)
-layout_built k ps ns system t is (p, w) =
+layout_built k ps ns system t is (p, n, w) =
     let a : setup_bytes ps ns system ++ t ≡ counted 2 ps ++ (counted 1 ns ++ (system_bytes system ++ t)) = append_assoc (counted 2 ps) (counted 1 ns ++ system_bytes system) t ∙ ap (λ u. counted 2 ps ++ u) (append_assoc (counted 1 ns) (system_bytes system) t) in
     let one = part_built 2 ps (counted 1 ns ++ (system_bytes system ++ t)) (exact_2 ps p) in
     let two = part_built 1 ns (system_bytes system ++ t) (exact_1 ns) in
@@ -196,35 +195,38 @@ unfolding empty
 empty_kind Terms = refl
 empty_kind Net = refl
 
+pub no_items : (size : ℕ) → Whole size []
+no_items size = (0, omega arith, omega arith)
+
 empty_whole : (k : Kind) → WholeSystem (empty k)
 unfolding empty
 empty_whole Terms = (omega arith, All-nil short)
-empty_whole Net = (0, refl)
+empty_whole Net = no_items 17
 
-tells_system : (k : Kind) (ps ns s : List ℕ) → Whole 2 ps → (o : Option (SystemView × List ℕ)) → SystemTells k s o → Tells k (counted 2 ps ++ (counted 1 ns ++ s)) (with_system ps ns o)
-tells_system k ps ns s p None (system, more, is, w, goes) =
+tells_system : (k : Kind) (ps ns s : List ℕ) → Whole 2 ps → Whole 1 ns → (o : Option (SystemView × List ℕ)) → SystemTells k s o → Tells k (counted 2 ps ++ (counted 1 ns ++ s)) (with_system ps ns o)
+tells_system k ps ns s p n None (system, more, is, w, goes) =
     let regroup : counted 2 ps ++ (counted 1 ns ++ (s ++ more)) ≡ (counted 2 ps ++ (counted 1 ns ++ s)) ++ more = simp append_assoc in
-    (ps, ns, system, more, is, (p, w), ap (λ t. counted 2 ps ++ (counted 1 ns ++ t)) goes ∙ regroup)
-tells_system k ps ns s p (Some (system, t)) (is, w, goes) =
+    (ps, ns, system, more, is, (p, n, w), ap (λ t. counted 2 ps ++ (counted 1 ns ++ t)) goes ∙ regroup)
+tells_system k ps ns s p n (Some (system, t)) (is, w, goes) =
     let regroup : counted 2 ps ++ (counted 1 ns ++ (system_bytes system ++ t)) ≡ (counted 2 ps ++ (counted 1 ns ++ system_bytes system)) ++ t = simp append_assoc in
-    (is, (p, w), ap (λ u. counted 2 ps ++ (counted 1 ns ++ u)) goes ∙ regroup)
+    (is, (p, n, w), ap (λ u. counted 2 ps ++ (counted 1 ns ++ u)) goes ∙ regroup)
 
 tells_names : (k : Kind) (ps s : List ℕ) → AreBytes s → Whole 2 ps → (o : Option (List ℕ × List ℕ)) → part_told 1 s ≡ o → Tells k (counted 2 ps ++ s) (with_names k ps o)
 tells_names k ps s h p None is =
-    let (ns, more, n, goes) = part_missing 1 (omega arith) s is in
+    let (ns, more, n, goes) = part_missing 1 (omega arith) s h is in
     let regroup : counted 2 ps ++ ((s ++ more) ++ system_bytes (empty k)) ≡ (counted 2 ps ++ s) ++ (more ++ system_bytes (empty k)) = simp append_assoc in
-    (ps, ns, empty k, more ++ system_bytes (empty k), empty_kind k, (p, empty_whole k), ap (λ t. counted 2 ps ++ (t ++ system_bytes (empty k))) goes ∙ regroup)
+    (ps, ns, empty k, more ++ system_bytes (empty k), empty_kind k, (p, n, empty_whole k), ap (λ t. counted 2 ps ++ (t ++ system_bytes (empty k))) goes ∙ regroup)
 tells_names k ps s h p (Some (ns, t)) is =
-    let (goes, n) = part_sound 1 (omega arith) s ns t is in
-    subst (λ u. Tells k (counted 2 ps ++ u) (with_system ps ns (system_told k t))) (sym goes) (tells_system k ps ns t p (system_told k t) (system_tells k t (bytes_behind s (counted 1 ns) t goes h)))
+    let (goes, n) = part_sound 1 (omega arith) s ns t h is in
+    subst (λ u. Tells k (counted 2 ps ++ u) (with_system ps ns (system_told k t))) (sym goes) (tells_system k ps ns t p n (system_told k t) (system_tells k t (bytes_behind s (counted 1 ns) t goes h)))
 
 tells_pairs : (k : Kind) (s : List ℕ) → AreBytes s → (o : Option (List ℕ × List ℕ)) → part_told 2 s ≡ o → Tells k s (with_pairs k o)
 tells_pairs k s h None is =
-    let (ps, more, p, goes) = part_missing 2 (omega arith) s is in
+    let (ps, more, p, goes) = part_missing 2 (omega arith) s h is in
     let rest : List ℕ = counted 1 [] ++ system_bytes (empty k) in
-    (ps, [], empty k, more ++ rest, empty_kind k, ((get_or s 0 0, p), empty_whole k), ap (λ t. t ++ rest) goes ∙ append_assoc s more rest)
+    (ps, [], empty k, more ++ rest, empty_kind k, (p, no_items 1, empty_whole k), ap (λ t. t ++ rest) goes ∙ append_assoc s more rest)
 tells_pairs k s h (Some (ps, t)) is =
-    let (goes, p) = part_sound 2 (omega arith) s ps t is in
+    let (goes, p) = part_sound 2 (omega arith) s ps t h is in
     subst (λ u. Tells k u (with_names k ps (part_told 1 t))) (sym goes) (tells_names k ps t (bytes_behind s (counted 2 ps) t goes h) p (part_told 1 t) refl)
 
 pub layout_tells : (k : Kind) (s : List ℕ) → AreBytes s → Tells k s (layout_told k s)

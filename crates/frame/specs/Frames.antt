@@ -54,18 +54,18 @@ bytes_of (release sheet) = 0xB5 ∷ sheet ∷ []
 bytes_of (reopen sheet) = 0xB6 ∷ sheet ∷ []
 bytes_of (print sheet) = 0xB7 ∷ sheet ∷ []
 
--- whole items of a size
+-- whole items of a size, as many as a byte can count
 abbrev pub Whole : ℕ → List ℕ → Type 0
-Whole size items = (n : ℕ) × (length items ≡ size * n)
+Whole size items = (n : ℕ) × (n ≤ 255) × (length items ≡ size * n)
 
--- Events are whole, of any number; of definitions, a byte counts them, and the bytes of each body.
+-- A byte can count the definitions, and one the bytes of each body; events are whole.
 abbrev pub WholeSystem : SystemView → Type 0
 WholeSystem (terms bodies) = (length bodies ≤ 255) × All (λ body. length body ≤ 255) bodies
 WholeSystem (net events) = Whole 17 events
 
--- The parts of a setup are whole pairs and names, of any number, and a whole system.
+-- The parts of a setup are whole pairs and names, and a whole system.
 abbrev pub LaidOut : FrameView → Type 0
-LaidOut (setup pairs names system) = Whole 2 pairs × WholeSystem system
+LaidOut (setup pairs names system) = Whole 2 pairs × Whole 1 names × WholeSystem system
 LaidOut (open_sheet sheet state) = Unit {0}
 LaidOut (add sheet step) = Unit {0}
 LaidOut (swap sheet place) = Unit {0}

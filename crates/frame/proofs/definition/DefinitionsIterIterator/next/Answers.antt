@@ -22,7 +22,7 @@ returns-clause-steps c =
     let s = c.args.self.now in
     record {
       first = bodies_more _ _ s.rest.now _ _ (omega arith) (sym c.in_ok-body.ensures.part);
-      behind_length = search rules;
+      stands = search rules;
       next = search rules;
       short = omega (arith, c.in_ok-body.ensures.short);
       within = omega (arith, part_length 1 s.rest.now _ _ (sym c.in_ok-body.ensures.part));
