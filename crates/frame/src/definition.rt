@@ -16,7 +16,7 @@ pub struct Definition<'a> {
 // The most definitions of a setup.
 pub const DEFINITION_LIMIT: u8 = 16;
 
-// So many definitions, each a byte that counts the bytes of its body, and the body.
+// So many definitions, each a byte that counts the bytes of its body, and the body; `bytes` begins with them.
 #[derive(Clone, Copy)]
 pub struct Definitions<'a> {
     pub count: u8,

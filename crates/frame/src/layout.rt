@@ -53,7 +53,7 @@ fn split_definitions(bytes: &[u8]) -> Option<(Definitions<'_>, &[u8])>
     ensures { definitions_view result ≡ terms_told bytes.now }
 {
     let (count, bytes) = bytes.split_first()?;
-    let behind = behind(*count, bytes)?;
+    let behind = skip_definitions(*count, bytes)?;
     let definitions = Definitions {
         count: *count,
         bytes,
@@ -62,7 +62,7 @@ fn split_definitions(bytes: &[u8]) -> Option<(Definitions<'_>, &[u8])>
 }
 
 // What stands behind so many definitions; none where bytes are missing.
-fn behind(count: u8, bytes: &[u8]) -> Option<&[u8]>
+fn skip_definitions(count: u8, bytes: &[u8]) -> Option<&[u8]>
     ensures { behind_view result ≡ behind_told count bytes.now }
 {
     let mut rest = bytes;

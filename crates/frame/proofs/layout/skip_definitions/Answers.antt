@@ -1,7 +1,7 @@
 use Rattle.std.proofs.Common.{◌≡◌, ◌-◌, ◌+◌, sym, ap, ◌∙◌, arith}
 use Rattle.frame.specs.Parts.{behind_told}
 use Rattle.frame.proofs.Bodies.{behind_end, behind_missing, behind_more}
-use Rattle.frame.proofs.layout.behind.Goals as goal
+use Rattle.frame.proofs.layout.skip_definitions.Goals as goal
 
 pub loop-init : goal.loop-init
 loop-init c = ap (λ n. behind_told n c.args.bytes.now) (omega arith)
