@@ -1,22 +1,28 @@
 -- Reading answers by the format: what is read is what was laid out, and a fault stands where no frame goes on.
-use Rattle.std.proofs.Common.{◌≡◌, ℕ, zero, suc, ◌+◌, ◌-◌, ◌*◌, ◌<◌, ◌≤◌, Bool, true, false, cond, eqb, leb, List, [], ◌∷◌, ◌++◌, length, get_or, take, Some, None, Ok, Err, Option, Result, sym, refl, ap, ◌∙◌, subst, arith}
+use Rattle.std.proofs.Common.{◌≡◌, ℕ, zero, suc, ◌+◌, ◌-◌, ◌/◌, ◌<◌, ◌≤◌, Bool, true, false, cond, eqb, leb, List, [], ◌∷◌, ◌++◌, length, get_or, take, drop, Some, None, Ok, Err, Option, Result, IfOk, sym, refl, ap, ◌∙◌, subst, arith}
 use lib.Seq.{take-append-add}
-use Rattle.std.proofs.lemmas.List.{append_assoc, append-nil, take_at, length-append, take_all, nil_from_length, length-take}
+use Rattle.std.proofs.lemmas.List.{append_assoc, append-nil, take_at, drop_at, length-append, take_all, nil_from_length, length-take}
+use Rattle.std.proofs.lemmas.List.Elements.{All-tail, All-from_get_or}
 use Rattle.std.proofs.lemmas.Bool.{le-leb, eq-eqb, cond_both, leb-true, leb-false, eqb-true, eqb-false}
 use Rattle.frame.specs.declared.fault.FrameFault.{FrameFault}
 use Rattle.frame.specs.declared.fault.FrameFault.TheVariants.{Malformed, BadSetup}
-use Rattle.frame.specs.Frames.{FrameView, setup_bytes, bytes_of, LaidOut, WithinRules, Accepted, Begins, frame_limit, event_limit}
+use Rattle.frame.specs.declared.frame.Frame.{Frame}
+use Rattle.frame.specs.declared.layout.Kind.{Kind}
+use Rattle.frame.specs.declared.layout.Kind.TheVariants.{Terms, Net}
+use Rattle.frame.specs.Frames.{SystemView, FrameView, definitions, kind_of, setup_bytes, bytes_of, LaidOut, Few, Many, WithinRules, Accepted, Begins, frame_limit, body_place}
+use Rattle.frame.specs.Frames.SystemView.{terms, net}
 use Rattle.frame.specs.Frames.FrameView.{setup, open_sheet, add, swap, withdraw, join, release, reopen, print}
-use Rattle.frame.specs.Reading.{Layout, layout_told, rules_told, parts_told, setup_told, sheet_rest_told, sheet_told, sheet_byte_told, bytes_told, frame_told}
-use Rattle.frame.specs.Format.{ReadsFrames, MalformedAt, PlacesMalformed, BadAt, PlacesBadSetups}
-use Rattle.frame.specs.Format.BadAt.{kind, pairs, names, events}
+use Rattle.frame.specs.Reading.{Layout, layout_told, few, rules_told, parts_told, setup_told, sheet_rest_told, sheet_told, sheet_byte_told, bytes_told, frame_told, frame_view, viewed}
+use Rattle.frame.specs.Format.{AreBytes, ReadsFrames, MalformedAt, PlacesMalformed, BadAt, PlacesBadSetups, PlacesBodies}
+use Rattle.frame.specs.Format.BadAt.{kind, pairs, names, count}
 use Rattle.frame.proofs.Calls.{within_told}
-use Rattle.frame.proofs.Layouts.{laid, layout_built, Tells, layout_tells, no_layout, ends}
+use Rattle.frame.proofs.Layouts.{byte_of, no_items, laid, layout_built, Tells, layout_tells, no_layout, ends}
+use Rattle.frame.proofs.Places.{definitions-append}
 
 -- first bytes
 
 long : (f : FrameView) → 2 ≤ length (bytes_of f)
-long (setup ps ns es) = omega arith
+long (setup ps ns system) = omega arith
 long (open_sheet sheet state) = omega arith
 long (add sheet step) = omega arith
 long (swap sheet place) = omega arith
@@ -39,7 +45,7 @@ record Unknown (call : ℕ) : Type 0 where
   not_print : call ≡ 0xB7 → ⊥
 
 named : (call : ℕ) → Unknown call → (f : FrameView) (t : List ℕ) → bytes_of f ≡ call ∷ t → ⊥
-named call u (setup ps ns es) t e = u.not_setup (sym (ap (λ s. get_or s 0 0) e))
+named call u (setup ps ns system) t e = u.not_setup (sym (ap (λ s. get_or s 0 0) e))
 named call u (open_sheet sheet state) t e = u.not_open (sym (ap (λ s. get_or s 0 0) e))
 named call u (add sheet step) t e = u.not_add (sym (ap (λ s. get_or s 0 0) e))
 named call u (swap sheet place) t e = u.not_swap (sym (ap (λ s. get_or s 0 0) e))
@@ -54,7 +60,7 @@ abbrev size : ℕ → ℕ
 size call = cond (eqb call 0xB2) 3 (cond (eqb call 0xB4) 3 2)
 
 sized : (call : ℕ) → 0xB1 < call → (f : FrameView) (t : List ℕ) → bytes_of f ≡ call ∷ t → length (bytes_of f) ≡ size call
-sized call h (setup ps ns es) t e = absurd (omega (arith, ap (λ s. get_or s 0 0) e))
+sized call h (setup ps ns system) t e = absurd (omega (arith, ap (λ s. get_or s 0 0) e))
 sized call h (open_sheet sheet state) t e = absurd (omega (arith, ap (λ s. get_or s 0 0) e))
 sized call h (add sheet step) t e = absurd (omega (arith, ap (λ s. get_or s 0 0) e))
 sized call h (swap sheet place) t e = ap (λ s. size (get_or s 0 0)) e
@@ -167,82 +173,104 @@ filled t h = positive (length t) (eqb-false _ _ h)
     positive : (n : ℕ) → (n ≡ 0 → ⊥) → 0 < n
     positive n no_zero = omega arith
 
-rules_right : (ps ns es : List ℕ) → LaidOut (setup ps ns es) → Right (bytes_of (setup ps ns es)) (rules_told ps ns es)
-rules_right ps ns es l =
-    cond_both (eqb (length ps) 0) _ _ (Right (bytes_of (setup ps ns es)))
-    (λ no_pairs. cond_both (eqb (length ns) 0) _ _ (Right (bytes_of (setup ps ns es)))
-    (λ no_names. cond_both (leb (length es) (17 * event_limit)) _ _ (Right (bytes_of (setup ps ns es)))
-    (λ few. (refl, l, (empty ps no_pairs, empty ns no_names, leb-true _ _ few)))
-    (λ many. bad_events (empty ps no_pairs) (empty ns no_names) (leb-false _ _ many)))
+few_enough : (system : SystemView) → few system ≡ true → Few system
+few_enough (terms bs) h = leb-true _ _ h
+few_enough (net es) h = leb-true _ _ h
+
+too_many : (system : SystemView) → few system ≡ false → Many system
+too_many (terms bs) h = leb-false _ _ h
+too_many (net es) h = leb-false _ _ h
+
+is_few : (system : SystemView) → Few system → few system ≡ true
+is_few (terms bs) h = le-leb _ _ h
+is_few (net es) h = le-leb _ _ h
+
+rules_right : (ps ns : List ℕ) (system : SystemView) → LaidOut (setup ps ns system) → Right (bytes_of (setup ps ns system)) (rules_told ps ns system)
+rules_right ps ns system l =
+    cond_both (eqb (length ps) 0) _ _ (Right (bytes_of (setup ps ns system)))
+    (λ no_pairs. cond_both (eqb (length ns) 0) _ _ (Right (bytes_of (setup ps ns system)))
+    (λ no_names. cond_both (few system) _ _ (Right (bytes_of (setup ps ns system)))
+    (λ enough. (refl, l, (empty ps no_pairs, empty ns no_names, few_enough system enough)))
+    (λ more. bad_count (empty ps no_pairs) (empty ns no_names) (too_many system more)))
     (λ some_names. bad_names (empty ps no_pairs) (filled ns some_names)))
-    (λ some_pairs. pairs ps ns es refl l (filled ps some_pairs))
+    (λ some_pairs. pairs ps ns system refl l (filled ps some_pairs))
   where
     empty : (t : List ℕ) → eqb (length t) 0 ≡ true → t ≡ []
     empty t h = nil_from_length t (eqb-true _ _ h)
 
-    bad_names : ps ≡ [] → 0 < length ns → BadAt (bytes_of (setup ps ns es)) 3
-    bad_names p h = names ns es (ap (λ t. bytes_of (setup t ns es)) (sym p)) (subst (λ t. LaidOut (setup t ns es)) p l) h
+    bad_names : ps ≡ [] → 0 < length ns → BadAt (bytes_of (setup ps ns system)) 3
+    bad_names p h = names ns system (ap (λ t. bytes_of (setup t ns system)) (sym p)) (subst (λ t. LaidOut (setup t ns system)) p l) h
 
-    bad_events : ps ≡ [] → ns ≡ [] → 17 * event_limit < length es → BadAt (bytes_of (setup ps ns es)) 4
-    bad_events p n h = events es (ap (λ t. bytes_of (setup [] t es)) (sym n) ∙ ap (λ t. bytes_of (setup t ns es)) (sym p)) (subst (λ t. LaidOut (setup t ns es)) p l) h
+    bad_count : ps ≡ [] → ns ≡ [] → Many system → BadAt (bytes_of (setup ps ns system)) 4
+    bad_count p n h = count system (ap (λ t. bytes_of (setup [] t system)) (sym n) ∙ ap (λ t. bytes_of (setup t ns system)) (sym p)) (subst (λ t. LaidOut (setup [] t system)) n (subst (λ t. LaidOut (setup t ns system)) p l)) h
 
 -- bytes behind the parts of a setup
-behind_right : (ps ns es t : List ℕ) (p : ℕ) → LaidOut (setup ps ns es) → 0 < length t → p ≡ length (setup_bytes ps ns es) + 2 → MalformedAt (0xA0 ∷ 0x02 ∷ (setup_bytes ps ns es ++ t)) p
-behind_right ps ns es t p l some is = record {
-  within = omega (arith, length-append (setup_bytes ps ns es) t);
-  begins = (setup ps ns es, [], l, sym (append-nil _ ∙ take_at (bytes_of (setup ps ns es)) t p (omega arith)));
+behind_right : (k : Kind) (ps ns : List ℕ) (system : SystemView) (t : List ℕ) (p : ℕ) → kind_of system ≡ byte_of k → LaidOut (setup ps ns system) → 0 < length t → p ≡ length (setup_bytes ps ns system) + 2 → MalformedAt (0xA0 ∷ byte_of k ∷ (setup_bytes ps ns system ++ t)) p
+behind_right k ps ns system t p same l some is = record {
+  within = omega (arith, length-append (setup_bytes ps ns system) t);
+  begins = (setup ps ns system, [], l, ap (λ j. 0xA0 ∷ j ∷ setup_bytes ps ns system) same ∙ sym (append-nil _ ∙ take_at whole t p (omega arith)));
   longest = longer;
-  no_frame = λ f l' e. absurd (omega (arith, ap length (ends ps ns es t l f l' e)));
+  no_frame = λ f l′ e. absurd (omega (arith, ap length (ends k ps ns system t same l f l′ e)));
 }
   where
-    longer : (n : ℕ) → p < n → n ≤ length (0xA0 ∷ 0x02 ∷ (setup_bytes ps ns es ++ t)) → Begins (take n (0xA0 ∷ 0x02 ∷ (setup_bytes ps ns es ++ t))) → ⊥
-    longer n h k (f, more, l', e) =
-        let w : List ℕ = setup_bytes ps ns es in
+    whole : List ℕ
+    whole = 0xA0 ∷ byte_of k ∷ setup_bytes ps ns system
+
+    longer : (n : ℕ) → p < n → n ≤ length (0xA0 ∷ byte_of k ∷ (setup_bytes ps ns system ++ t)) → Begins (take n (0xA0 ∷ byte_of k ∷ (setup_bytes ps ns system ++ t))) → ⊥
+    longer n h within (f, more, l′, e) =
+        let w : List ℕ = setup_bytes ps ns system in
+        let all : List ℕ = 0xA0 ∷ byte_of k ∷ w in
         let m : ℕ = n - p in
-        let split : n ≡ length (bytes_of (setup ps ns es)) + m = omega arith in
-        let front : take n (bytes_of (setup ps ns es) ++ t) ≡ bytes_of (setup ps ns es) ++ take m t = ap (λ j. take j (bytes_of (setup ps ns es) ++ t)) split ∙ take-append-add (bytes_of (setup ps ns es)) t m in
-        let whole : bytes_of f ≡ 0xA0 ∷ 0x02 ∷ (w ++ (take m t ++ more)) = e ∙ (ap (λ u. u ++ more) front ∙ append_assoc (bytes_of (setup ps ns es)) (take m t) more) in
-        let none = ap length (ends ps ns es (take m t ++ more) l f l' whole) in
+        let split : n ≡ length all + m = omega arith in
+        let front : take n (all ++ t) ≡ all ++ take m t = ap (λ j. take j (all ++ t)) split ∙ take-append-add all t m in
+        let bytes : bytes_of f ≡ 0xA0 ∷ byte_of k ∷ (w ++ (take m t ++ more)) = e ∙ (ap (λ u. u ++ more) front ∙ append_assoc all (take m t) more) in
+        let none = ap length (ends k ps ns system (take m t ++ more) same l f l′ bytes) in
         omega (arith, none, length-append (take m t) more, length-take m t, length-append w t)
 
-parts_right : (s : List ℕ) (o : Option Layout) → layout_told s ≡ o → Tells s o → Right (0xA0 ∷ 0x02 ∷ s) (parts_told (length s + 2) o)
-parts_right s None is (ps, ns, es, more, l, goes) = record {
+parts_right : (k : Kind) (s : List ℕ) (o : Option Layout) → layout_told k s ≡ o → Tells k s o → Right (0xA0 ∷ byte_of k ∷ s) (parts_told (length s + 2) o)
+parts_right k s None is (ps, ns, system, more, same, l, goes) = record {
   within = omega arith;
-  begins = subst Begins (sym (take_all (length s + 2) (0xA0 ∷ 0x02 ∷ s) (omega arith))) (setup ps ns es, more, l, ap (λ t. 0xA0 ∷ 0x02 ∷ t) goes);
-  longest = λ n h k b. absurd (omega arith);
-  no_frame = λ f l' e. no_layout f s l' e is;
+  begins = subst Begins (sym (take_all (length s + 2) (0xA0 ∷ byte_of k ∷ s) (omega arith))) (setup ps ns system, more, l, ap (λ j. 0xA0 ∷ j ∷ setup_bytes ps ns system) same ∙ ap (λ t. 0xA0 ∷ byte_of k ∷ t) goes);
+  longest = λ n h within b. absurd (omega arith);
+  no_frame = λ f l′ e. no_layout k f s l′ e is;
 }
-parts_right s (Some l) is (laid_out, goes) =
-    cond_both (eqb (length l.behind) 0) _ _ (Right (0xA0 ∷ 0x02 ∷ s)) all extra
+parts_right k s (Some l) is (same, laid_out, goes) =
+    cond_both (eqb (length l.behind) 0) _ _ (Right (0xA0 ∷ byte_of k ∷ s)) all extra
   where
-    all : eqb (length l.behind) 0 ≡ true → Right (0xA0 ∷ 0x02 ∷ s) (rules_told l.pairs l.names l.events)
+    all : eqb (length l.behind) 0 ≡ true → Right (0xA0 ∷ byte_of k ∷ s) (rules_told l.pairs l.names l.system)
     all none =
         let empty : l.behind ≡ [] = nil_from_length l.behind (eqb-true _ _ none) in
-        let whole : setup_bytes l.pairs l.names l.events ≡ s = sym (goes ∙ (ap (λ t. setup_bytes l.pairs l.names l.events ++ t) empty ∙ append-nil (setup_bytes l.pairs l.names l.events))) in
-        subst (λ t. Right (0xA0 ∷ 0x02 ∷ t) (rules_told l.pairs l.names l.events)) whole (rules_right l.pairs l.names l.events laid_out)
+        let whole : setup_bytes l.pairs l.names l.system ≡ s = sym (goes ∙ (ap (λ t. setup_bytes l.pairs l.names l.system ++ t) empty ∙ append-nil (setup_bytes l.pairs l.names l.system))) in
+        let bytes : bytes_of (setup l.pairs l.names l.system) ≡ 0xA0 ∷ byte_of k ∷ s = ap (λ j. 0xA0 ∷ j ∷ setup_bytes l.pairs l.names l.system) same ∙ ap (λ t. 0xA0 ∷ byte_of k ∷ t) whole in
+        subst (λ t. Right t (rules_told l.pairs l.names l.system)) bytes (rules_right l.pairs l.names l.system laid_out)
 
-    extra : eqb (length l.behind) 0 ≡ false → MalformedAt (0xA0 ∷ 0x02 ∷ s) (length s + 2 - length l.behind)
+    extra : eqb (length l.behind) 0 ≡ false → MalformedAt (0xA0 ∷ byte_of k ∷ s) (length s + 2 - length l.behind)
     extra some =
-        let len : length s ≡ length (setup_bytes l.pairs l.names l.events) + length l.behind = ap length goes ∙ length-append (setup_bytes l.pairs l.names l.events) l.behind in
-        subst (λ t. MalformedAt (0xA0 ∷ 0x02 ∷ t) (length s + 2 - length l.behind)) (sym goes)
-        (behind_right l.pairs l.names l.events l.behind (length s + 2 - length l.behind) laid_out (filled l.behind some) (omega arith))
+        let len : length s ≡ length (setup_bytes l.pairs l.names l.system) + length l.behind = ap length goes ∙ length-append (setup_bytes l.pairs l.names l.system) l.behind in
+        subst (λ t. MalformedAt (0xA0 ∷ byte_of k ∷ t) (length s + 2 - length l.behind)) (sym goes)
+        (behind_right k l.pairs l.names l.system l.behind (length s + 2 - length l.behind) same laid_out (filled l.behind some) (omega arith))
 
-setup_right : (rest : List ℕ) → Right (0xA0 ∷ rest) (setup_told rest)
-setup_right [] = lone_right 0xA0 (setup [] [] [], 2 ∷ 0 ∷ 0 ∷ 0 ∷ [], ((0, refl), (0, refl)), refl)
-setup_right (k ∷ s) =
-    cond_both (eqb k 2) _ _ (Right (0xA0 ∷ k ∷ s))
-    (λ is. subst (λ j. Right (0xA0 ∷ j ∷ s) (parts_told (length s + 2) (layout_told s))) (sym (eqb-true _ _ is)) (parts_right s (layout_told s) refl (layout_tells s)))
-    (λ no_kind. kind (eqb-false _ _ no_kind))
+of_kind : (k : Kind) (j : ℕ) (s : List ℕ) → AreBytes (0xA0 ∷ j ∷ s) → eqb j (byte_of k) ≡ true → Right (0xA0 ∷ j ∷ s) (parts_told (length s + 2) (layout_told k s))
+of_kind k j s h is =
+    let rest : AreBytes s = All-tail (λ b. b < 256) j s (All-tail (λ b. b < 256) 0xA0 (j ∷ s) h) in
+    subst (λ i. Right (0xA0 ∷ i ∷ s) (parts_told (length s + 2) (layout_told k s))) (sym (eqb-true _ _ is)) (parts_right k s (layout_told k s) refl (layout_tells k s rest))
+
+setup_right : (rest : List ℕ) → AreBytes (0xA0 ∷ rest) → Right (0xA0 ∷ rest) (setup_told rest)
+setup_right [] h = lone_right 0xA0 (setup [] [] (net []), 2 ∷ 0 ∷ 0 ∷ 0 ∷ [], (no_items 2, no_items 1, no_items 17), refl)
+setup_right (k ∷ s) h =
+    cond_both (eqb k 1) _ _ (Right (0xA0 ∷ k ∷ s)) (of_kind Terms k s h) (λ no_terms.
+    cond_both (eqb k 2) _ _ (Right (0xA0 ∷ k ∷ s)) (of_kind Net k s h) (λ no_net.
+    kind (eqb-false _ _ no_terms) (eqb-false _ _ no_net)))
 
 -- every answer is right
 
 at_call : (call code : ℕ) (rest : List ℕ) (r : Result FrameView FrameFault) → eqb call code ≡ true → Right (code ∷ rest) r → Right (call ∷ rest) r
 at_call call code rest r is h = subst (λ c. Right (c ∷ rest) r) (sym (eqb-true call code is)) h
 
-bytes_right : (s : List ℕ) → Right s (bytes_told s)
-bytes_right [] = nothing_right
-bytes_right (call ∷ rest) =
-    cond_both (eqb call 0xA0) _ _ (Right (call ∷ rest)) (λ is. at_call call 0xA0 rest (setup_told rest) is (setup_right rest)) (λ n0.
+bytes_right : (s : List ℕ) → AreBytes s → Right s (bytes_told s)
+bytes_right [] h = nothing_right
+bytes_right (call ∷ rest) h =
+    cond_both (eqb call 0xA0) _ _ (Right (call ∷ rest)) (λ is. at_call call 0xA0 rest (setup_told rest) is (setup_right rest (subst (λ c. AreBytes (c ∷ rest)) (eqb-true call 0xA0 is) h))) (λ n0.
     cond_both (eqb call 0xB0) _ _ (Right (call ∷ rest)) (λ is. at_call call 0xB0 rest (sheet_rest_told open_sheet rest) is (open_right rest)) (λ n1.
     cond_both (eqb call 0xB1) _ _ (Right (call ∷ rest)) (λ is. at_call call 0xB1 rest (sheet_rest_told add rest) is (add_right rest)) (λ n2.
     cond_both (eqb call 0xB2) _ _ (Right (call ∷ rest)) (λ is. at_call call 0xB2 rest (sheet_byte_told swap rest) is (swap_right rest)) (λ n3.
@@ -263,15 +291,18 @@ bytes_right (call ∷ rest) =
       not_print = eqb-false call 0xB7 n8;
     }))))))))))
 
--- the bytes of an accepted frame are read as that frame
-accepted_read : (f : FrameView) → LaidOut f → WithinRules f → bytes_told (bytes_of f) ≡ Ok f
-accepted_read (setup ps ns es) l (p, n, few) =
-    let built : layout_told (setup_bytes ps ns es) ≡ Some (laid ps ns es []) = ap layout_told (sym (append-nil (setup_bytes ps ns es))) ∙ layout_built ps ns es [] l in
+setup_read : (k : Kind) (ps ns : List ℕ) (system : SystemView) → kind_of system ≡ byte_of k → LaidOut (setup ps ns system) → WithinRules (setup ps ns system) → parts_told (length (setup_bytes ps ns system) + 2) (layout_told k (setup_bytes ps ns system)) ≡ Ok (setup ps ns system)
+setup_read k ps ns system same l (p, n, enough) =
+    let built : layout_told k (setup_bytes ps ns system) ≡ Some (laid ps ns system []) = ap (layout_told k) (sym (append-nil (setup_bytes ps ns system))) ∙ layout_built k ps ns system [] same l in
     let no_pairs : eqb (length ps) 0 ≡ true = eq-eqb _ _ (ap length p) in
     let no_names : eqb (length ns) 0 ≡ true = eq-eqb _ _ (ap length n) in
-    let fits : leb (length es) (17 * event_limit) ≡ true = le-leb _ _ few in
-    let ruled : rules_told ps ns es ≡ Ok (setup ps ns es) = rw (no_pairs, no_names, fits) refl in
-    ap (parts_told (length (setup_bytes ps ns es) + 2)) built ∙ ruled
+    let ruled : rules_told ps ns system ≡ Ok (setup ps ns system) = rw (no_pairs, no_names, is_few system enough) refl in
+    ap (parts_told (length (setup_bytes ps ns system) + 2)) built ∙ ruled
+
+-- the bytes of an accepted frame are read as that frame
+accepted_read : (f : FrameView) → LaidOut f → WithinRules f → bytes_told (bytes_of f) ≡ Ok f
+accepted_read (setup ps ns (terms bs)) l r = setup_read Terms ps ns (terms bs) refl l r
+accepted_read (setup ps ns (net es)) l r = setup_read Net ps ns (net es) refl l r
 accepted_read (open_sheet sheet state) l r = refl
 accepted_read (add sheet step) l r = refl
 accepted_read (swap sheet place) l r = refl
@@ -281,8 +312,8 @@ accepted_read (release sheet) l r = refl
 accepted_read (reopen sheet) l r = refl
 accepted_read (print sheet) l r = refl
 
-within_limit : (s : List ℕ) → length s ≤ frame_limit → Right s (frame_told s)
-within_limit s h = subst (Right s) (sym (within_told s h)) (bytes_right s)
+within_limit : (s : List ℕ) → AreBytes s → length s ≤ frame_limit → Right s (frame_told s)
+within_limit s b h = subst (Right s) (sym (within_told s h)) (bytes_right s b)
 
 -- an answer other than the refusal of what is too long comes from the bytes
 bytes_answer : (s : List ℕ) (r : Result FrameView FrameFault) → (r ≡ Err (Malformed frame_limit) → ⊥) → frame_told s ≡ r → (length s ≤ frame_limit) × (bytes_told s ≡ r)
@@ -293,21 +324,38 @@ bytes_answer s r other e = cases (leb (length s) frame_limit) refl e
     cases false is h = absurd (other (sym h))
 
 pub reads_frames : ReadsFrames
-reads_frames s f = (there, back)
+reads_frames s f b = (there, back)
   where
     there : frame_told s ≡ Ok f → (bytes_of f ≡ s) × Accepted f
     there e =
         let (within, told) = bytes_answer s (Ok f) (λ h. let z : ◌≡◌ {A = ℕ} 0 1 = cc in omega arith) e in
-        let (is, l, r) = subst (Right s) told (bytes_right s) in
+        let (is, l, r) = subst (Right s) told (bytes_right s b) in
         (is, (l, r, subst (λ t. length t ≤ frame_limit) (sym is) within))
 
     back : (bytes_of f ≡ s) × Accepted f → frame_told s ≡ Ok f
     back (is, (l, r, fits)) = subst (λ t. frame_told t ≡ Ok f) is (within_told (bytes_of f) fits ∙ accepted_read f l r)
 
 pub places_malformed : PlacesMalformed
-places_malformed s place fits e = subst (Right s) e (within_limit s fits)
+places_malformed s place b fits e = subst (Right s) e (within_limit s b fits)
 
 pub places_bad_setups : PlacesBadSetups
-places_bad_setups s place e =
+places_bad_setups s place b e =
     let (within, told) = bytes_answer s (Err (BadSetup place)) (λ h. let z : ◌≡◌ {A = ℕ} 0 1 = cc in omega arith) e in
-    subst (Right s) told (bytes_right s)
+    subst (Right s) told (bytes_right s b)
+
+pub places_bodies : PlacesBodies
+unfolding definitions
+places_bodies s ps ns front body back b e =
+    let (is, (l, (p, n, enough), fits)) = (reads_frames s (setup ps ns (terms (front ++ body ∷ back))) b).0 e in
+    let all = front ++ body ∷ back in
+    let head : List ℕ = 0xA0 ∷ 1 ∷ 0 ∷ 0 ∷ length all ∷ (definitions front ++ length body / 1 ∷ []) in
+    let split : definitions all ≡ (definitions front ++ length body / 1 ∷ []) ++ (body ++ definitions back) =
+    definitions-append front (body ∷ back) ∙ sym (append_assoc (definitions front) (length body / 1 ∷ []) (body ++ definitions back)) in
+    let bytes : bytes_of (setup [] [] (terms all)) ≡ head ++ (body ++ definitions back) = ap (λ u. 0xA0 ∷ 1 ∷ 0 ∷ 0 ∷ length all ∷ u) split in
+    let whole : s ≡ head ++ (body ++ definitions back) = sym is ∙ ap (λ u. bytes_of (setup u ns (terms all))) p ∙ ap (λ u. bytes_of (setup [] u (terms all))) n ∙ bytes in
+    let long : length head ≡ body_place front = omega (arith, length-append (definitions front) (length body / 1 ∷ [])) in
+    ap (λ u. take (length body) (drop (body_place front) u)) whole ∙ ap (take (length body)) (drop_at head (body ++ definitions back) (body_place front) long) ∙ take_at body (definitions back) (length body) refl
+
+pub rules_kept : (r : Result Frame FrameFault) (s : List ℕ) → ((i : ℕ) → get_or s i 0 < 256) → viewed frame_view r ≡ frame_told s → IfOk r (λ f. WithinRules (frame_view f))
+rules_kept (Ok f) s b e = ((reads_frames s (frame_view f) (All-from_get_or (λ b. b < 256) s 0 (λ i h. b i))).0 (sym e)).1.1
+rules_kept (Err fault) s b e = tt

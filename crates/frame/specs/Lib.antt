@@ -1,4 +1,6 @@
 pub mod Refusals
+pub mod Parts
+pub mod Definitions
 pub mod Frames
 pub mod Reading
 pub mod Events

@@ -1,17 +1,31 @@
 -- What reading a frame answers, step by step. Assumes nothing.
-use Rattle.std.specs.Prelude.{ℕ, ◌+◌, ◌-◌, ◌*◌, cond, List, [], ◌∷◌, length, take, drop, Some, None, Ok, Err, Option, Result, ◌==◌, nat_le}
+use Rattle.std.specs.Prelude.{ℕ, ◌+◌, ◌-◌, ◌*◌, Bool, cond, List, [], ◌∷◌, length, Some, None, Ok, Err, Option, Result, ◌==◌, nat_le}
 use Rattle.std.specs.Borrow.{Bor}
 use Rattle.frame.specs.declared.fault.FrameFault.{FrameFault}
 use Rattle.frame.specs.declared.fault.FrameFault.TheVariants.{Malformed, BadSetup}
+use Rattle.frame.specs.declared.definition.Definitions.{Definitions}
 use Rattle.frame.specs.declared.setup.Setup.{Setup}
+use Rattle.frame.specs.declared.setup.System.{System}
+use Rattle.frame.specs.declared.setup.System.TheVariants as system_variant
+use Rattle.frame.specs.declared.layout.Kind.{Kind}
+use Rattle.frame.specs.declared.layout.Kind.TheVariants.{Terms, Net}
 use Rattle.frame.specs.declared.frame.Frame.{Frame}
 use Rattle.frame.specs.declared.frame.Frame.TheVariants as variant
-use Rattle.frame.specs.Frames.{FrameView, frame_limit, event_limit}
+use Rattle.frame.specs.Parts.{part_told, behind_told, bodies}
+use Rattle.frame.specs.Frames.{SystemView, FrameView, frame_limit, definition_limit, event_limit}
+use Rattle.frame.specs.Frames.SystemView.{terms, net}
 use Rattle.frame.specs.Frames.FrameView.{setup, open_sheet, add, swap, withdraw, join, release, reopen, print}
 
 -- what a frame that was read holds
+abbrev pub bodies_of : Definitions → List (List ℕ)
+bodies_of d = bodies d.count d.bytes.now
+
+abbrev pub system_view : System → SystemView
+system_view (system_variant.Terms definitions) = terms (bodies_of definitions)
+system_view (system_variant.Net events) = net events.bytes.now
+
 abbrev pub setup_view : Setup → FrameView
-setup_view s = setup s.pairs.now s.names.now s.events.now
+setup_view s = setup s.pairs.now s.names.now (system_view s.system)
 
 abbrev pub frame_view : Frame → FrameView
 frame_view (variant.Setup s) = setup_view s
@@ -28,59 +42,84 @@ abbrev pub viewed : {A : Type 0} → (A → FrameView) → Result A FrameFault �
 viewed view (Ok a) = Ok (view a)
 viewed view (Err f) = Err f
 
--- counted items of a size, and what stands behind them; none where bytes are missing
-abbrev pub part_told : ℕ → List ℕ → Option (List ℕ × List ℕ)
-part_told size [] = None
-part_told size (count ∷ s) = cond (nat_le (count * size) (length s)) (Some (take (count * size) s, drop (count * size) s)) None
+-- counted definitions, and what stands behind them
+abbrev pub with_behind : ℕ → List ℕ → Option (List ℕ) → Option (SystemView × List ℕ)
+with_behind count s None = None
+with_behind count s (Some behind) = Some (terms (bodies count s), behind)
 
-abbrev pub part_view : Option (Bor (List ℕ) × Bor (List ℕ)) → Option (List ℕ × List ℕ)
-part_view None = None
-part_view (Some (items, rest)) = Some (items.now, rest.now)
+abbrev pub terms_told : List ℕ → Option (SystemView × List ℕ)
+terms_told [] = None
+terms_told (count ∷ s) = with_behind count s (behind_told count s)
+
+-- counted events, and what stands behind them
+abbrev pub net_part : Option (List ℕ × List ℕ) → Option (SystemView × List ℕ)
+net_part None = None
+net_part (Some (events, behind)) = Some (net events, behind)
+
+abbrev pub system_told : Kind → List ℕ → Option (SystemView × List ℕ)
+system_told Terms s = terms_told s
+system_told Net s = net_part (part_told 17 s)
+
+abbrev pub definitions_view : Option (Definitions × Bor (List ℕ)) → Option (SystemView × List ℕ)
+definitions_view None = None
+definitions_view (Some (definitions, behind)) = Some (terms (bodies_of definitions), behind.now)
+
+abbrev pub system_part_view : Option (System × Bor (List ℕ)) → Option (SystemView × List ℕ)
+system_part_view None = None
+system_part_view (Some (system, behind)) = Some (system_view system, behind.now)
 
 -- the parts of a setup, and the bytes behind them
 pub record Layout : Type 0 where
   pub pairs : List ℕ
   pub names : List ℕ
-  pub events : List ℕ
+  pub system : SystemView
   pub behind : List ℕ
 
-abbrev pub with_events : List ℕ → List ℕ → Option (List ℕ × List ℕ) → Option Layout
-with_events pairs names None = None
-with_events pairs names (Some (events, s)) = Some (record { pairs = pairs; names = names; events = events; behind = s })
+abbrev pub with_system : List ℕ → List ℕ → Option (SystemView × List ℕ) → Option Layout
+with_system pairs names None = None
+with_system pairs names (Some (system, s)) = Some (record { pairs = pairs; names = names; system = system; behind = s })
 
-abbrev pub with_names : List ℕ → Option (List ℕ × List ℕ) → Option Layout
-with_names pairs None = None
-with_names pairs (Some (names, s)) = with_events pairs names (part_told 17 s)
+abbrev pub with_names : Kind → List ℕ → Option (List ℕ × List ℕ) → Option Layout
+with_names kind pairs None = None
+with_names kind pairs (Some (names, s)) = with_system pairs names (system_told kind s)
 
-abbrev pub with_pairs : Option (List ℕ × List ℕ) → Option Layout
-with_pairs None = None
-with_pairs (Some (pairs, s)) = with_names pairs (part_told 1 s)
+abbrev pub with_pairs : Kind → Option (List ℕ × List ℕ) → Option Layout
+with_pairs kind None = None
+with_pairs kind (Some (pairs, s)) = with_names kind pairs (part_told 1 s)
 
-abbrev pub layout_told : List ℕ → Option Layout
-layout_told s = with_pairs (part_told 2 s)
+abbrev pub layout_told : Kind → List ℕ → Option Layout
+layout_told kind s = with_pairs kind (part_told 2 s)
 
 abbrev pub layout_view : Option (Setup × Bor (List ℕ)) → Option Layout
 layout_view None = None
-layout_view (Some (s, behind)) = Some (record { pairs = s.pairs.now; names = s.names.now; events = s.events.now; behind = behind.now })
+layout_view (Some (s, behind)) = Some (record { pairs = s.pairs.now; names = s.names.now; system = system_view s.system; behind = behind.now })
 
--- the rules of a setup: no pairs, no names, at most 48 events; else the place of the count
-abbrev pub rules_told : List ℕ → List ℕ → List ℕ → Result FrameView FrameFault
-rules_told pairs names events =
+-- whether there are at most 16 definitions, or 48 events
+abbrev pub few : SystemView → Bool
+few (terms bodies) = nat_le (length bodies) definition_limit
+few (net events) = nat_le (length events) (17 * event_limit)
+
+-- the rules of a setup: no pairs, no names, not too many definitions or events; else the place of the count
+abbrev pub rules_told : List ℕ → List ℕ → SystemView → Result FrameView FrameFault
+rules_told pairs names system =
     cond (length pairs == 0)
     (cond (length names == 0)
-    (cond (nat_le (length events) (17 * event_limit)) (Ok (setup pairs names events)) (Err (BadSetup 4)))
+    (cond (few system) (Ok (setup pairs names system)) (Err (BadSetup 4)))
     (Err (BadSetup 3)))
     (Err (BadSetup 2))
 
 -- missing bytes are told behind the end, and extra ones where they begin
 abbrev pub parts_told : ℕ → Option Layout → Result FrameView FrameFault
 parts_told end None = Err (Malformed end)
-parts_told end (Some l) = cond (length l.behind == 0) (rules_told l.pairs l.names l.events) (Err (Malformed (end - length l.behind)))
+parts_told end (Some l) = cond (length l.behind == 0) (rules_told l.pairs l.names l.system) (Err (Malformed (end - length l.behind)))
 
 -- what stands behind the first byte of a setup
 abbrev pub setup_told : List ℕ → Result FrameView FrameFault
 setup_told [] = Err (Malformed 1)
-setup_told (kind ∷ s) = cond (kind == 2) (parts_told (length s + 2) (layout_told s)) (Err (BadSetup 1))
+setup_told (kind ∷ s) =
+    cond (kind == 1) (parts_told (length s + 2) (layout_told Terms s))
+    (cond (kind == 2) (parts_told (length s + 2) (layout_told Net s))
+    (Err (BadSetup 1)))
 
 -- a sheet and the rest of the frame; a sheet alone; a sheet and one byte more
 abbrev pub sheet_rest_told : (ℕ → List ℕ → FrameView) → List ℕ → Result FrameView FrameFault

@@ -3,32 +3,37 @@ ghost use Rattle.std.specs.Prelude.{◌≡◌, ◌/◌, length};
 ghost use Rattle.std.specs.Iterator.{at_most};
 ghost use Rattle.frame.specs.Events.{NextEvent, event_place};
 
-use crate::setup::Setup;
 use nets::event::Event;
 
 // Events of seventeen bytes, one behind the other: an action, and the sets before and after it.
-#[derive(Drop)]
+#[derive(Clone, Copy)]
 pub struct Events<'a> {
+    pub bytes: &'a [u8],
+}
+
+// The events that are left.
+#[derive(Drop)]
+pub struct EventsIter<'a> {
     pub rest: &'a [u8],
 }
 
-impl<'a> Setup<'a> {
+impl<'a> Events<'a> {
     // The events, from the first on.
-    pub fn events(&self) -> Events<'a>
-        ensures { result.rest.now ≡ self.now.events.now }
+    pub fn iter(&self) -> EventsIter<'a>
+        ensures { result.rest.now ≡ self.now.bytes.now }
     {
-        Events { rest: self.events }
+        EventsIter { rest: self.bytes }
     }
 
     // The place in the frame of an event's first byte, in a setup that was accepted.
-    pub fn event_place(i: u8) -> u16
+    pub fn place(i: u8) -> u16
         ensures { result ≡ event_place i }
     {
         5 + 17 * u16::from(i)
     }
 }
 
-impl Iterator for Events<'_> {
+impl Iterator for EventsIter<'_> {
     type Item = Event;
 
     ghost next_gives = { λ s r t. NextEvent s.rest.now r t.rest.now };

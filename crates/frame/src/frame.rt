@@ -1,7 +1,8 @@
 // Frames and the calls that they name.
-ghost use Rattle.std.specs.Prelude.{◌≡◌, ◌<◌, length};
+ghost use Rattle.std.specs.Prelude.{◌≡◌, ◌<◌, IfOk, length};
+ghost use Rattle.frame.specs.Frames.{WithinRules};
 ghost use Rattle.frame.specs.Reading.{frame_told, call_told, frame_view, viewed, sheet_told, sheet_byte_told};
-ghost use Rattle.frame.specs.Format.{ReadsFrames, PlacesMalformed, PlacesBadSetups};
+ghost use Rattle.frame.specs.Format.{ReadsFrames, PlacesMalformed, PlacesBadSetups, PlacesBodies};
 
 use crate::fault::FrameFault;
 use crate::setup::Setup;
@@ -27,9 +28,11 @@ impl Frame<'_> {
     // Reads a frame; a string longer than a frame may be is malformed at the limit.
     pub fn read(frame: &[u8]) -> Result<Frame<'_>, FrameFault>
         ensures answer { viewed frame_view result ≡ frame_told frame.now }
+        ensures rules { IfOk result (λ f. WithinRules (frame_view f)) }
         ensures frames { ReadsFrames }
         ensures malformed { PlacesMalformed }
         ensures setups { PlacesBadSetups }
+        ensures bodies { PlacesBodies }
     {
         if frame.len() > FRAME_LIMIT {
             return Err(FrameFault::Malformed(1024));

@@ -1,5 +1,5 @@
 use Rattle.frame.proofs.Numbers.{event_taken}
-use Rattle.frame.proofs.event.EventsIterator.next.Goals as goal
+use Rattle.frame.proofs.event.EventsIterIterator.next.Goals as goal
 
 pub returns-clause-steps : goal.returns-clause-steps
 returns-clause-steps c =

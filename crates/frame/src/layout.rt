@@ -1,0 +1,85 @@
+// The layout of a setup: its parts taken apart.
+ghost use Rattle.std.specs.Prelude.{◌≡◌, ◌*◌, ◌<◌, ◌≤◌, IfSome, length};
+ghost use Rattle.frame.specs.Parts.{part_told, part_view, behind_told, behind_view};
+ghost use Rattle.frame.specs.Reading.{layout_told, layout_view, system_told, system_part_view, terms_told, definitions_view};
+
+use crate::definition::Definitions;
+use crate::event::Events;
+use crate::setup::{Setup, System};
+
+// The kinds of setups.
+#[derive(Clone, Copy)]
+pub(crate) enum Kind {
+    Terms,
+    Net,
+}
+
+// Takes the bytes behind the kind of a setup apart: its parts, and the bytes behind them.
+pub(crate) fn layout(kind: Kind, fields: &[u8]) -> Option<(Setup<'_>, &[u8])>
+    requires { length fields.now < 1023 }
+    ensures { layout_view result ≡ layout_told kind fields.now }
+{
+    let (pairs, rest) = split_off(fields, 2)?;
+    let (names, rest) = split_off(rest, 1)?;
+    let (system, behind) = split_system(kind, rest)?;
+    let setup = Setup {
+        pairs,
+        names,
+        system,
+    };
+    Some((setup, behind))
+}
+
+// Splits off the count of definitions or events, and these; what stands behind them comes second.
+fn split_system(kind: Kind, bytes: &[u8]) -> Option<(System<'_>, &[u8])>
+    requires { length bytes.now ≤ 1020 }
+    ensures { system_part_view result ≡ system_told kind bytes.now }
+{
+    match kind {
+        Kind::Terms => {
+            let (definitions, behind) = split_definitions(bytes)?;
+            Some((System::Terms(definitions), behind))
+        }
+        Kind::Net => {
+            let (bytes, behind) = split_off(bytes, 17)?;
+            Some((System::Net(Events { bytes }), behind))
+        }
+    }
+}
+
+// Splits off a byte that counts definitions, and these.
+fn split_definitions(bytes: &[u8]) -> Option<(Definitions<'_>, &[u8])>
+    requires { length bytes.now ≤ 1020 }
+    ensures { definitions_view result ≡ terms_told bytes.now }
+{
+    let (count, bytes) = bytes.split_first()?;
+    let behind = skip_definitions(*count, bytes)?;
+    let definitions = Definitions {
+        count: *count,
+        bytes,
+    };
+    Some((definitions, behind))
+}
+
+// What stands behind so many definitions; none where bytes are missing.
+fn skip_definitions(count: u8, bytes: &[u8]) -> Option<&[u8]>
+    ensures { behind_view result ≡ behind_told count bytes.now }
+{
+    let mut rest = bytes;
+    for _ in 0..count {
+        let Some((_, behind)) = split_off(rest, 1) else {
+            return None;
+        };
+        rest = behind;
+    }
+    Some(rest)
+}
+
+// Splits off a byte that counts items of `size` bytes, and the items; what stands behind them comes second.
+pub(crate) fn split_off(bytes: &[u8], size: u8) -> Option<(&[u8], &[u8])>
+    ensures part { part_view result ≡ part_told size bytes.now }
+    ensures short { IfSome result (λ part. length part.0.now ≤ 255 * size) }
+{
+    let (count, rest) = bytes.split_first()?;
+    rest.split_at_checked(usize::from(*count) * usize::from(size))
+}
