@@ -12,7 +12,7 @@ from dataclasses import dataclass
 from pathlib import Path
 
 from generate import ADD, JOIN, OPEN, generate_session, setup_frame
-from sheetbench import CONDITIONS, Event, encode_set
+from nets import CONDITIONS, Event, encode_set
 
 MODEL = [sys.executable, str(Path(__file__).resolve().parent / "sheetbench.py")]
 SEED = 1

@@ -10,7 +10,7 @@ from collections.abc import Callable, Iterable, Iterator
 from dataclasses import dataclass
 from typing import Generic
 
-from sheetbench import E, S, System
+from systems import E, S, System
 
 
 @dataclass

@@ -13,24 +13,9 @@ from collections.abc import Callable
 from dataclasses import replace
 from random import Random
 
-from sheetbench import (
-    CONDITIONS,
-    EVENT_BYTES,
-    KIND_NET,
-    MOST_EVENTS,
-    MOST_FRAME_BYTES,
-    MOST_STEPS,
-    SET_BYTES,
-    SHEETS,
-    Event,
-    Marking,
-    Net,
-    Refusal,
-    Server,
-    Sheet,
-    Standing,
-    encode_set,
-)
+from nets import CONDITIONS, EVENT_BYTES, SET_BYTES, Event, Marking, Net, encode_set
+from sheetbench import KIND_NET, MOST_EVENTS, MOST_FRAME_BYTES, MOST_STEPS, SHEETS, Server, Sheet, Standing
+from systems import Refusal
 
 SETUP, OPEN, ADD, SWAP, WITHDRAW, JOIN, RELEASE, REOPEN, PRINT = 0xA0, *range(0xB0, 0xB8)
 CALLS = (SETUP, OPEN, ADD, SWAP, WITHDRAW, JOIN, RELEASE, REOPEN, PRINT)
@@ -423,7 +408,8 @@ class Session:
 
     @property
     def net(self) -> Net:
-        return self.server.bench.system
+        system = self.server.bench.system
+        return system if isinstance(system, Net) else Net()
 
     @property
     def events(self) -> list[Event]:

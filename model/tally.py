@@ -8,7 +8,9 @@ from dataclasses import dataclass, field, replace
 from os.path import commonprefix
 
 from generate import CALLS, PRINT, SWAP
-from sheetbench import MOST_STEPS, SHEETS, Bench, Marking, Net, Number, Refusal, Server, Standing, decode_line
+from nets import Marking, Net
+from sheetbench import MOST_STEPS, SHEETS, Bench, Server, Standing, decode_line
+from systems import Number, Refusal
 
 # How many different places each refusal must have occurred at.
 LEAST_PLACES = {

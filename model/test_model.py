@@ -12,21 +12,12 @@ from typing import Any
 
 from bruteforce import Search
 from generate import generate
-from sheetbench import (
-    Bench,
-    Event,
-    Layer,
-    Marking,
-    Net,
-    Number,
-    Refusal,
-    Server,
-    System,
-    encode_set,
-    split_lines,
-)
+from nets import Event, Marking, Net, encode_set
+from sheetbench import Bench, Server, split_lines
+from systems import Layer, Number, Refusal, System
 
 PROGRAM = Path(__file__).resolve().parent / "sheetbench.py"
+SESSIONS = Path(__file__).resolve().parent.parent / "sessions"
 
 ZERO = "0000000000000000"
 C0 = "0000000000000001"  # condition 0 holds
@@ -41,6 +32,7 @@ BACK = "41" + C1 + C0
 TO_AND_BACK = "A002000002" + TO + BACK
 ONLY_TO = "A002000001" + TO
 SWAPPED = "A002000002" + BACK + TO
+NO_EVENTS = "A002000000"
 OPEN = "B000" + C0
 
 # Each case: why, the lines before (their answers do not matter), the line, its
@@ -67,19 +59,19 @@ FRAME_CASES: list[Case] = [
     ("missing numbers of a join", [], "B4", "01010001"),
     ("missing second sheet of a join", [], "B4FF", "01010002"),
     ("extra byte of a join", [], "B4000100", "01010003"),
-    ("1,024 bytes are allowed", [], "B000" + 1022 * "00", "04040008"),
+    ("1,024 bytes are allowed", [NO_EVENTS], "B000" + 1022 * "00", "04040008"),
     ("1,025 bytes are not", [], "B000" + 1023 * "00", "01010400"),
     ("half a byte too long", [], "B000" + 1022 * "00" + "0", "01010400"),
     ("a bad last digit in time", [], "B000" + 2043 * "0" + "G00", "010103FF"),
     ("a bad digit too late to be seen", [], 2048 * "0" + "0G", "01010400"),
-    ("lower case is read, capitals are written", ["b000" + C63], "b300", "0A020000"),
+    ("lower case is read, capitals are written", [NO_EVENTS, "b000" + C63], "b300", "0A020000"),
 ]
 
 SETUP_CASES: list[Case] = [
     ("no events", [], "A002000000", "00"),
     ("two events", [], TO_AND_BACK, "00"),
     ("the call byte alone", [], "A0", "01010001"),
-    ("wrong kind, though bytes are missing", [], "A001", "02010001"),
+    ("wrong kind, though bytes are missing", [], "A003", "02010001"),
     ("wrong kind, though bytes are extra", [], "A00300000000", "02010001"),
     ("missing count of pairs", [], "A002", "01010002"),
     ("missing bytes precede pairs", [], "A00201AA", "01010004"),
@@ -103,12 +95,12 @@ SETUP_CASES: list[Case] = [
 ]
 
 SHEET_CASES: list[Case] = [
-    ("open", [], OPEN, "00"),
+    ("open", [NO_EVENTS], OPEN, "00"),
     ("no such sheet", [], "B004" + C0, "03020001"),
     ("no such sheet precedes a wrong state", [], "B0FF", "03020001"),
-    ("no state: no bytes", [], "B000", "04040000"),
-    ("no state: seven bytes", [], "B000" + 7 * "00", "04040007"),
-    ("no state: nine bytes", [], "B000" + 9 * "00", "04040008"),
+    ("no state: no bytes", [NO_EVENTS], "B000", "04040000"),
+    ("no state: seven bytes", [NO_EVENTS], "B000" + 7 * "00", "04040007"),
+    ("no state: nine bytes", [NO_EVENTS], "B000" + 9 * "00", "04040008"),
     ("add to a blank sheet", [TO_AND_BACK], "B10000", "03020001"),
     ("add", [TO_AND_BACK, OPEN], "B10000", "00" + C1),
     ("add where the other conditions stay", [TO_AND_BACK, "B0008000000000000001"], "B10000", "008000000000000002"),
@@ -118,7 +110,7 @@ SHEET_CASES: list[Case] = [
     ("no step: two events only", [TO_AND_BACK, OPEN], "B10002", "05040000"),
     ("no step: more than an event", [TO_AND_BACK, OPEN], "B1000000", "05040001"),
     ("no step: more than no event", [TO_AND_BACK, OPEN], "B1000200", "05040000"),
-    ("no events before a setup", [OPEN], "B10000", "05040000"),
+    ("no events", [NO_EVENTS, OPEN], "B10000", "05040000"),
     ("32 steps", [TO_AND_BACK, OPEN] + 15 * ["B10000", "B10001"] + ["B10000"], "B10001", "00" + C0),
     ("33 steps", [TO_AND_BACK, OPEN] + 16 * ["B10000", "B10001"], "B10000", "09020020"),
     ("a full sheet precedes a wrong step", [TO_AND_BACK, OPEN] + 16 * ["B10000", "B10001"], "B100", "09020020"),
@@ -128,14 +120,14 @@ SHEET_CASES: list[Case] = [
     ("a refused open leaves the steps", [TO_AND_BACK, OPEN, "B10000", "B000"], "B300", "00" + C0),
     ("a refused add leaves the steps", [TO_AND_BACK, OPEN, "B10000", "B10000"], "B300", "00" + C0),
     ("release a blank sheet", [], "B500", "03020001"),
-    ("release", [OPEN], "B500", "00"),
-    ("release twice", [OPEN, "B500"], "B500", "03020001"),
-    ("open a released sheet", [OPEN, "B500"], OPEN, "03020001"),
+    ("release", [NO_EVENTS, OPEN], "B500", "00"),
+    ("release twice", [NO_EVENTS, OPEN, "B500"], "B500", "03020001"),
+    ("open a released sheet", [NO_EVENTS, OPEN, "B500"], OPEN, "03020001"),
     ("add to a released sheet", [TO_AND_BACK, OPEN, "B500"], "B10000", "03020001"),
-    ("reopen an open sheet", [OPEN], "B600", "03020001"),
+    ("reopen an open sheet", [NO_EVENTS, OPEN], "B600", "03020001"),
     ("reopen and go on", [TO_AND_BACK, OPEN, "B500", "B600"], "B10000", "00" + C1),
-    ("print an open sheet", [OPEN], "B700", "03020001"),
-    ("print no steps", ["B003" + C63, "B503"], "B703", "0000" + C63 + " " + C63),
+    ("print an open sheet", [NO_EVENTS, OPEN], "B700", "03020001"),
+    ("print no steps", [NO_EVENTS, "B003" + C63, "B503"], "B703", "0000" + C63 + " " + C63),
     (
         "print two steps",
         [TO_AND_BACK, OPEN, "B10000", "B10001", "B500"],
@@ -577,6 +569,16 @@ class ProgramTest(unittest.TestCase):
             with self.subTest(why):
                 result = subprocess.run([sys.executable, PROGRAM], input=data, stdout=subprocess.PIPE, check=True)
                 self.assertEqual(result.stdout, output)
+
+
+    def test_stored_sessions(self) -> None:
+        inputs = sorted(SESSIONS.glob("*.in"))
+        self.assertTrue(inputs)
+        for path in inputs:
+            with self.subTest(path.name):
+                server = Server()
+                found = b"".join(server.answer(line) for line in split_lines(path.read_bytes()))
+                self.assertEqual(found, path.with_suffix(".out").read_bytes())
 
 
 class GeneratorTest(unittest.TestCase):
