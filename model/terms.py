@@ -30,11 +30,8 @@ def complementary(one: int, other: int) -> bool:
     return one != SILENT and other != SILENT and abs(one - other) == CO
 
 
-# Terms
-
-
-class Term:
-    """A node of a term with all below it."""
+class Tree:
+    """A node with all below it. Two are the same where their bytes are."""
 
     @cached_property
     def encoded(self) -> bytes:
@@ -43,14 +40,27 @@ class Term:
     def encode(self) -> bytes:
         raise NotImplementedError
 
+    def __eq__(self, other: object) -> bool:
+        return isinstance(other, Tree) and self.encoded == other.encoded
 
-@dataclass(frozen=True)
+    def __hash__(self) -> int:
+        return hash(self.encoded)
+
+
+# Terms
+
+
+class Term(Tree):
+    """A state."""
+
+
+@dataclass(frozen=True, eq=False)
 class Nil(Term):
     def encode(self) -> bytes:
         return b"\x00"
 
 
-@dataclass(frozen=True)
+@dataclass(frozen=True, eq=False)
 class Prefix(Term):
     action: int
     then: Term
@@ -59,7 +69,7 @@ class Prefix(Term):
         return bytes([0x01, self.action]) + self.then.encoded
 
 
-@dataclass(frozen=True)
+@dataclass(frozen=True, eq=False)
 class Parallel(Term):
     left: Term
     right: Term
@@ -68,7 +78,7 @@ class Parallel(Term):
         return b"\x02" + self.left.encoded + self.right.encoded
 
 
-@dataclass(frozen=True)
+@dataclass(frozen=True, eq=False)
 class Sum(Term):
     left: Term
     right: Term
@@ -77,7 +87,7 @@ class Sum(Term):
         return b"\x03" + self.left.encoded + self.right.encoded
 
 
-@dataclass(frozen=True)
+@dataclass(frozen=True, eq=False)
 class Restriction(Term):
     name: int
     inner: Term
@@ -86,7 +96,7 @@ class Restriction(Term):
         return bytes([0x04, self.name]) + self.inner.encoded
 
 
-@dataclass(frozen=True)
+@dataclass(frozen=True, eq=False)
 class Call(Term):
     number: int
 
@@ -97,18 +107,11 @@ class Call(Term):
 # Proofs
 
 
-class Proof:
-    """A node of a proof with all below it."""
-
-    @cached_property
-    def encoded(self) -> bytes:
-        return self.encode()
-
-    def encode(self) -> bytes:
-        raise NotImplementedError
+class Proof(Tree):
+    """How a step comes about."""
 
 
-@dataclass(frozen=True)
+@dataclass(frozen=True, eq=False)
 class Act(Proof):
     action: int
 
@@ -116,7 +119,7 @@ class Act(Proof):
         return bytes([0x10, self.action])
 
 
-@dataclass(frozen=True)
+@dataclass(frozen=True, eq=False)
 class OnLeft(Proof):
     part: Proof
 
@@ -124,7 +127,7 @@ class OnLeft(Proof):
         return b"\x11" + self.part.encoded
 
 
-@dataclass(frozen=True)
+@dataclass(frozen=True, eq=False)
 class OnRight(Proof):
     part: Proof
 
@@ -132,7 +135,7 @@ class OnRight(Proof):
         return b"\x12" + self.part.encoded
 
 
-@dataclass(frozen=True)
+@dataclass(frozen=True, eq=False)
 class Both(Proof):
     left: Proof
     right: Proof
@@ -141,7 +144,7 @@ class Both(Proof):
         return b"\x13" + self.left.encoded + self.right.encoded
 
 
-@dataclass(frozen=True)
+@dataclass(frozen=True, eq=False)
 class ChooseLeft(Proof):
     part: Proof
 
@@ -149,7 +152,7 @@ class ChooseLeft(Proof):
         return b"\x14" + self.part.encoded
 
 
-@dataclass(frozen=True)
+@dataclass(frozen=True, eq=False)
 class ChooseRight(Proof):
     part: Proof
 
@@ -157,7 +160,7 @@ class ChooseRight(Proof):
         return b"\x15" + self.part.encoded
 
 
-@dataclass(frozen=True)
+@dataclass(frozen=True, eq=False)
 class Under(Proof):
     name: int
     part: Proof

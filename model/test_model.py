@@ -6,15 +6,17 @@ from __future__ import annotations
 import subprocess
 import sys
 import unittest
+from collections.abc import Callable
 from pathlib import Path
 from random import Random
 from typing import Any
 
-from bruteforce import Search
+from bruteforce import Search, possible_proofs
 from generate import generate
 from nets import Event, Marking, Net, encode_set
 from sheetbench import Bench, Server, split_lines
 from systems import Layer, Number, Refusal, System
+from test_terms import random_terms
 
 PROGRAM = Path(__file__).resolve().parent / "sheetbench.py"
 SESSIONS = Path(__file__).resolve().parent.parent / "sessions"
@@ -399,30 +401,23 @@ def small_net(random: Random) -> tuple[Net, Marking]:
 
 
 class Trial:
-    """Two runs from one start in a random small system, on sheets 0 and 1 of a bench."""
+    """Two runs from one start in a small system, on sheets 0 and 1 of a bench."""
 
-    def __init__(self, seed: int, marked: bool) -> None:
-        self.random = Random(seed)
-        net, marking = small_net(self.random)
-        self.system: System[Any, Any] = MarkedNet(net) if marked else net
-        self.start: Any = (True, marking) if marked else marking
-        steps: list[Any] = list(range(len(net.events)))
-        self.all_steps = [(mark, step) for mark in (False, True) for step in steps] if marked else steps
-        self.search: Search[Any, Any] = Search(self.system, self.possible)
-        self.one = self.random_run((), self.random.choice((1, 2, 3, 4, 4)))
-        order = self.random.choice(sorted(self.search.orders(self.one)))
-        kept = order[: self.random.choice((0, 1, 2, 3))]
-        self.other = self.random_run(kept, self.random.randrange(5 - len(kept)))
+    def __init__(
+        self, random: Random, system: System[Any, Any], start: Any, possible: Callable[[Any], list[Any]]
+    ) -> None:
+        self.random = random
+        self.system = system
+        self.start = start
+        self.possible = possible
+        self.search: Search[Any, Any] = Search(system, possible)
+        self.one = self.random_run((), random.choice((1, 2, 3, 4, 4)))
+        order = random.choice(sorted(self.search.orders(self.one), key=self.encoded))
+        kept = order[: random.choice((0, 1, 2, 3))]
+        self.other = self.random_run(kept, random.randrange(5 - len(kept)))
 
-    def possible(self, state: Any) -> list[Any]:
-        found = []
-        for step in self.all_steps:
-            try:
-                self.system.next(state, step)
-            except Refusal:
-                continue
-            found.append(step)
-        return found
+    def encoded(self, steps: tuple[Any, ...]) -> list[bytes]:
+        return [self.system.encode_step(step) for step in steps]
 
     def random_run(self, steps: tuple[Any, ...], more: int) -> tuple[Any, ...]:
         for _ in range(more):
@@ -443,13 +438,47 @@ class Trial:
         return tuple(bench.replay(bench.sheets[number]).steps)
 
 
+def one_of(system: System[Any, Any], steps: list[Any]) -> Callable[[Any], list[Any]]:
+    """Which of these steps are possible in a state."""
+
+    def possible(state: Any) -> list[Any]:
+        found = []
+        for step in steps:
+            try:
+                system.next(state, step)
+            except Refusal:
+                continue
+            found.append(step)
+        return found
+
+    return possible
+
+
+def net_trial(random: Random) -> Trial:
+    net, marking = small_net(random)
+    return Trial(random, net, marking, one_of(net, list(range(len(net.events)))))
+
+
+def marked_trial(random: Random) -> Trial:
+    net, marking = small_net(random)
+    steps = [(mark, step) for mark in (False, True) for step in range(len(net.events))]
+    marked = MarkedNet(net)
+    return Trial(random, marked, (True, marking), one_of(marked, steps))
+
+
+def terms_trial(random: Random) -> Trial:
+    terms, term = random_terms(random, random.choice((8, 10, 12)))
+    return Trial(random, terms, term, lambda state: possible_proofs(terms, state))
+
+
 class SearchTest(unittest.TestCase):
     """Joins and swaps against what a search finds."""
 
-    TRIALS = 400
+    # Each kind with the number of its trials.
+    KINDS = {net_trial: 400, marked_trial: 400, terms_trial: 200}
 
-    def trials(self, marked: bool) -> list[Trial]:
-        return [Trial(seed, marked) for seed in range(self.TRIALS)]
+    def trials(self, kind: Callable[[Random], Trial]) -> list[Trial]:
+        return [kind(Random(seed)) for seed in range(self.KINDS[kind])]
 
     def joined(self, trial: Trial, number: int, other: int) -> tuple[Any, ...] | int:
         """The steps after a join, or the place of the conflict."""
@@ -484,16 +513,16 @@ class SearchTest(unittest.TestCase):
         return None
 
     def test_joins(self) -> None:
-        for marked in (False, True):
+        for kind in self.KINDS:
             conflicts = set()
-            for seed, trial in enumerate(self.trials(marked)):
-                with self.subTest(marked=marked, seed=seed):
+            for seed, trial in enumerate(self.trials(kind)):
+                with self.subTest(kind=kind.__name__, seed=seed):
                     conflicts.add(self.check_join(trial))
             self.assertEqual(conflicts, {None, 1, 2, 3, 4})
 
     def test_joins_with_itself(self) -> None:
-        for marked in (False, True):
-            for trial in self.trials(marked):
+        for kind in self.KINDS:
+            for trial in self.trials(kind):
                 bench = trial.bench()
                 length = len(trial.one)
                 self.assertEqual(bench.join(0, 0), (length, length))
@@ -518,11 +547,11 @@ class SearchTest(unittest.TestCase):
         return True
 
     def test_swaps(self) -> None:
-        for marked in (False, True):
+        for kind in self.KINDS:
             answers = set()
-            for seed, trial in enumerate(self.trials(marked)):
+            for seed, trial in enumerate(self.trials(kind)):
                 for place in range(1, len(trial.one)):
-                    with self.subTest(marked=marked, seed=seed, place=place):
+                    with self.subTest(kind=kind.__name__, seed=seed, place=place):
                         answers.add(self.check_swap(trial, place))
             self.assertEqual(answers, {False, True})
 
