@@ -544,7 +544,7 @@ class Session:
         if random.random() < 0.7:
             self.send_setup(self.system_for_joins())
         self.send(OPEN, one, self.draws.lively_state())
-        self.add_possible(one, random.choice((0, 1, 2, 3, 4, 5, 6, 8, 12)))
+        self.add_possible(one, random.choice((0, 0, 0, 1, 2, 3, 4, 5, 6, 8, 12)))
         self.copy(one, other)
         self.shuffle(other, random.choice((0, 1, 3, 6)))
         self.add_possible(one, random.choice((0, 1, 1, 2, 4)))
