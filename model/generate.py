@@ -660,27 +660,50 @@ class Session:
         self.send(WITHDRAW, number)
 
     def grow_on_two_sheets(self) -> None:
-        """Two steps of which each makes a state longer, joined; and swapped where the first made it shorter before."""
+        """Two steps of which each makes a state longer, joined; perhaps behind many others, or before a conflict."""
         random = self.random
         one, other = self.open_two()
         goal = random.choice((*range(MOST_STATE_BYTES - 2, MOST_STATE_BYTES + 4), 300, 400))
-        half = (goal - 1) // 2
-        halves = [half, goal - 1 - half]
-        self.send_setup(self.terms_of([Prefix(0x01, filler(halves[0])), Prefix(0x02, filler(halves[1]))]))
-        grow = [OnLeft(Act(0x01)).encoded, OnRight(Act(0x02)).encoded]
-        for number, steps in ((one, grow[:1]), (other, grow[1:])):
-            self.send(OPEN, number, Parallel(Call(0), Call(1)).encoded)
-            for step in steps:
-                self.send(ADD, number, step)
+        beside = len(Parallel(Call(2), Call(3)).encoded) + 2
+        half = (goal - beside) // 2
+        long = [Prefix(0x01, filler(half)), Prefix(0x02, filler(goal - beside - half))]
+        loops = [Prefix(0x03, Call(2)), Sum(Prefix(0x04, Call(3)), Prefix(0x05, Call(3)))]
+        self.send_setup(self.terms_of([*long, *loops]))
+        start = Parallel(Parallel(Call(0), Call(1)), Parallel(Call(2), Call(3)))
+        conflict = random.random() < 0.3
+        most = 0 if conflict else random.choice((0, 0, 2, MOST_STEPS - 1))
+        rounds = (OnRight(OnLeft(Act(0x03))), OnRight(OnRight(ChooseLeft(Act(0x04)))))
+        grow = (OnLeft(OnLeft(Act(0x01))), OnLeft(OnRight(Act(0x02))))
+        for number, around, step in zip((one, other), rounds, grow):
+            self.send(OPEN, number, start.encoded)
+            for _ in range(random.randrange(most // 2, most + 1)):
+                self.send(ADD, number, around.encoded)
+            self.send(ADD, number, step.encoded)
+        if conflict:
+            self.send(ADD, one, rounds[1].encoded)
+            self.send(ADD, other, OnRight(OnRight(ChooseRight(Act(0x05)))).encoded)
         self.send(JOIN, one, other)
         self.after_join(one, other)
-        self.free(one)
-        # the left side is long and ends, the right side is short and becomes long: swapped, both are long
-        self.send(OPEN, one, Parallel(Sum(filler(halves[0] - 4), Prefix(0x03, Nil())), Call(1)).encoded)
-        self.send(ADD, one, OnLeft(ChooseRight(Act(0x03))).encoded)
-        self.send(ADD, one, grow[1])
-        self.send(SWAP, one, 1)
-        self.send(WITHDRAW, one)
+
+    def swap_to_a_long_state(self) -> None:
+        """The first step ends a long term, the second begins one: exchanged, both are there.
+
+        Perhaps both steps are behind choices, and the second is then too long as well.
+        """
+        random = self.random
+        number = self.any_sheet()
+        self.free(number)
+        goal = random.choice((*range(MOST_STATE_BYTES - 2, MOST_STATE_BYTES + 4), 300, 340))
+        made, own = random.choice(((0, 0), (0, 0), (2, 3), (40, 20), (41, 20), (42, 20), (44, 19)))
+        left = min(goal // 2, MOST_STATE_BYTES - 9 - 2 * made)
+        right = goal - left - 5
+        self.send_setup(self.terms_of([choices(own, Prefix(0x02, filler(right)))]))
+        start = choices(made, Parallel(Sum(filler(left), Prefix(0x03, Nil())), Call(0)))
+        self.send(OPEN, number, start.encoded)
+        self.send(ADD, number, behind([ChooseRight] * made + [OnLeft, ChooseRight], Act(0x03)).encoded)
+        self.send(ADD, number, behind([OnRight] + [ChooseRight] * own, Act(0x02)).encoded)
+        self.send(SWAP, number, 1)
+        self.send(WITHDRAW, number)
 
     def over_terms(self) -> int:
         """Opens a sheet in terms, the present ones or new, and returns its number."""
@@ -714,6 +737,10 @@ class Session:
         self.send_setup(self.terms_of([node(own, Call(1)), node(own, Call(0))] if random.random() < 0.5 else [node(own, Call(0))]))
         self.send(OPEN, number, Call(0).encoded)
         self.send(ADD, number, behind([right] * depth + [left], Act(0x01)).encoded)
+        turn = random.randrange(depth + 1)
+        wrong = [right] * turn + [OnLeft if right is ChooseRight else ChooseLeft] + [right] * (depth - turn)
+        self.send(ADD, number, behind(wrong, Act(0x01)).encoded[:MOST_STEP_BYTES])
+        self.send(ADD, number, behind([right] * random.randrange(60) + [left], Act(0x02)).encoded)
         self.send(ADD, number, behind([right] * random.randrange(10) + [left], Act(0x01)).encoded)
 
     def grow(self) -> None:
@@ -871,7 +898,8 @@ GOOD_MOVES: dict[Callable[[Session], None], int] = {
     Session.join_near_limit: 8,
     Session.join_terms_near_limit: 8,
     Session.swap_long: 15,
-    Session.grow_on_two_sheets: 10,
+    Session.grow_on_two_sheets: 15,
+    Session.swap_to_a_long_state: 15,
     Session.grow: 25,
     Session.deep_step: 12,
 }

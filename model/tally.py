@@ -21,7 +21,7 @@ LEAST_PLACES = {
     Number.SHEET: 2,
     Number.STATE: 20,
     Number.STEP: 20,
-    Number.IMPOSSIBLE: 10,
+    Number.IMPOSSIBLE: 20,
     Number.LONG_STATE: 20,
     Number.FULL: 1,
     Number.ABSENT: 20,

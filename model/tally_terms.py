@@ -83,6 +83,7 @@ TERM_HAPPENINGS = (
     f"swap refused for a step of {MOST_STEP_BYTES + 1} bytes",
     "swap refused for a longer step",
     "swap refused for a state too long",
+    "swap refused for a step too long before a state too long",
     "swap of dependent proofs",
     "join of terms that drops a choice",
     "join of terms that shares some",
@@ -92,6 +93,8 @@ TERM_HAPPENINGS = (
     "join of terms with a conflict",
     "join of terms with a conflict of equal labels",
     "join refused for a state too long",
+    "join refused for too many steps before a state too long",
+    "join refused for a conflict before a state too long",
     *(f"terms stopped in terms by refusal {number}" for number in (4, 6, 8)),
     *(f"a net's sheet stopped in terms by refusal {number}" for number in (4, 5)),
     *(f"terms stopped in a net by refusal {number}" for number in (4, 5)),
@@ -321,6 +324,10 @@ class Talk:
         if self.refused == Number.LONG_STEP:
             exact = self.place == MOST_STEP_BYTES + 1
             yield f"swap refused for a {f'step of {self.place} bytes' if exact else 'longer step'}"
+            run = self.bench.replay(self.bench.sheets[number])
+            moved = self.terms.back(*run.steps[place - 1 : place + 1])
+            if moved is not None and self.grows_too_long(run.states[place - 1], [moved]):
+                yield "swap refused for a step too long before a state too long"
         elif self.refused == Number.LONG_STATE:
             yield "swap refused for a state too long"
         elif self.refused == Number.DEPENDENT:
@@ -333,15 +340,29 @@ class Talk:
                 yield "swap to a step of 64 bytes"
             yield from meeting_names(first, moved)
 
+    def grows_too_long(self, state: Term, steps: list[Proof]) -> bool:
+        """Whether these steps lead to a state that is too long."""
+        for step in steps:
+            state = self.terms.next(state, step)
+            if len(state.encoded) > MOST_STATE_BYTES:
+                return True
+        return False
+
     def join_names(self) -> Iterator[str]:
-        one, other = (self.bench.replay(self.bench.sheets[number]).steps for number in self.frame[1:3])
+        runs = [self.bench.replay(self.bench.sheets[number]) for number in self.frame[1:3]]
+        one, other = (run.steps for run in runs)
         if self.refused == Number.CONFLICT:
             yield "join of terms with a conflict"
             step = other[self.place - 1]
             if any(self.terms.label(met) == self.terms.label(step) and met != step for met in one):
                 yield "join of terms with a conflict of equal labels"
-        elif self.refused == Number.LENGTH and self.place == MOST_STEPS + 1:
-            yield f"join of terms refused for {self.place} steps"
+            if self.grows_too_long(runs[0].end, self.bench.carry_all(other[: self.place - 1], one)):
+                yield "join refused for a conflict before a state too long"
+        elif self.refused == Number.LENGTH:
+            if self.place == MOST_STEPS + 1:
+                yield f"join of terms refused for {self.place} steps"
+            if self.grows_too_long(runs[0].end, self.bench.carry_all(other, one)):
+                yield "join refused for too many steps before a state too long"
         elif self.refused == Number.LONG_STATE:
             yield "join refused for a state too long"
         elif not self.refused:
