@@ -15,7 +15,7 @@ from sheetbench import Server, split_lines
 from tally import Tally, answer_with_names
 
 DEFAULT_SEEDS = tuple(range(1, 17))
-DEFAULT_FRAMES = 4000
+DEFAULT_FRAMES = 5000
 PROGRAM_SECONDS = 60
 SHOWN = 300
 

@@ -159,10 +159,12 @@ def chosen_terms(random: Random) -> Family:
     count = random.choice((1, 2, 4))
     maker = TermMaker(random, count)
     bodies: list[Term] = [chain([maker.action()], Call(index)) for index in range(count)]
-    actions = [maker.action() for _ in range(random.choice((1, 2, 3)))]
+    actions = [maker.action() for _ in range(random.choice((1, 2, 3, 4)))]
+    if random.random() < 0.5:
+        actions = [action or maker.name() for action in actions]
     ones = [chain([action], maker.leaf()) for action in actions]
     others = [chain([co(action)], maker.leaf()) for action in actions]
-    if random.random() < 0.5:
+    if random.random() < 0.3:
         ones.append(Call(random.randrange(count)))
     core: Term = Parallel(reduce(Parallel, ones), reduce(Parallel, others))
     for _ in range(random.choice((1, 1, 2, 3, 5))):
@@ -282,7 +284,7 @@ class Walk:
                     if part is not None and not is_improper(Under(name, part)):
                         return Under(name, part)
             case Parallel(left, right):
-                if wanted in (None, SILENT) and self.random.random() < 0.4:
+                if wanted in (None, SILENT) and self.random.random() < 0.5:
                     meeting = self.meeting(left, right, depth)
                     if meeting is not None:
                         return meeting

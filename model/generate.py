@@ -258,7 +258,8 @@ class Session:
 
     def any_system(self) -> Draws[Any]:
         """A new system of either kind."""
-        if self.random.random() < 0.5:
+        # most of what is only over one kind is over terms
+        if self.random.random() < 0.35:
             return random_terms(self.random)
         return self.net_of(random_net(self.random))
 
@@ -561,7 +562,7 @@ class Session:
 
     def system_for_joins(self) -> Draws[Any]:
         random = self.random
-        if random.random() < 0.6:
+        if random.random() < 0.5:
             families = (chosen_terms, chosen_terms, chosen_terms, nested_terms, looping_terms, crowding_terms)
             return random_terms(random, random.choice(families))
         return self.net_of(random.choice((rings_net, tokens_net, tokens_net, tangled_net))(random))

@@ -261,7 +261,7 @@ class Talk:
     def bad_step_names(self, step: bytes) -> Iterator[str]:
         try:
             proof = decode_proof(step)
-        except (Misfit, RecursionError):
+        except Misfit:
             proof = None
         if len(step) > MOST_STEP_BYTES:
             yield "step too long" if self.place == MOST_STEP_BYTES else "step with a fault, and too long"
