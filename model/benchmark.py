@@ -1,5 +1,5 @@
 #!/usr/bin/env python3
-"""Times a program and the model on the same long inputs: a random session, joins of long runs, and calls on long terms."""
+"""Times a program and the model on the same inputs: a long random session, joins of long runs, calls on long terms."""
 
 from __future__ import annotations
 
@@ -119,6 +119,15 @@ def join_seconds(command: list[str], case: JoinCase) -> tuple[bytes, float]:
 
 
 @dataclass
+class CallFrames:
+    """The frames before, those that are repeated with the call, and those of them without it."""
+
+    before: list[bytes]
+    repeated: list[bytes]
+    without: list[bytes]
+
+
+@dataclass
 class TermCase:
     """A start, and two independent steps of it; the second is also what is left of it after the first."""
 
@@ -129,8 +138,7 @@ class TermCase:
     second_later: Proof
     bodies: tuple[Term, ...] = (Nil(),)
 
-    def calls(self) -> dict[str, tuple[list[bytes], list[bytes], list[bytes]]]:
-        """For each call the frames before, those that are repeated, and those of them without the call."""
+    def calls(self) -> dict[str, CallFrames]:
         start, first, second = (tree.encoded for tree in (self.start, self.first, self.second))
         begin = [terms_setup([body.encoded for body in self.bodies])]
         opening = [bytes([OPEN, 0]) + start]
@@ -138,12 +146,12 @@ class TermCase:
         both = [*adding, bytes([ADD, 0]) + self.second_later.encoded]
         beside = [bytes([OPEN, 1]) + start, bytes([ADD, 1]) + second]
         return {
-            "open": (begin, opening, []),
-            "add": (begin, adding, opening),
-            "withdraw": (begin, [*adding, bytes([WITHDRAW, 0])], adding),
-            "swap": (begin + both, [bytes([SWAP, 0, 1])], []),
-            "join": (begin + beside, [*adding, bytes([JOIN, 0, 1])], adding),
-            "print": (begin + both + [bytes([RELEASE, 0])], [bytes([PRINT, 0])], []),
+            "open": CallFrames(begin, opening, []),
+            "add": CallFrames(begin, adding, opening),
+            "withdraw": CallFrames(begin, [*adding, bytes([WITHDRAW, 0])], adding),
+            "swap": CallFrames(begin + both, [bytes([SWAP, 0, 1])], []),
+            "join": CallFrames(begin + beside, [*adding, bytes([JOIN, 0, 1])], adding),
+            "print": CallFrames(begin + both + [bytes([RELEASE, 0])], [bytes([PRINT, 0])], []),
         }
 
 
@@ -209,11 +217,10 @@ def term_cases() -> list[TermCase]:
     return found
 
 
-def call_seconds(command: list[str], frames: tuple[list[bytes], list[bytes], list[bytes]], times: int) -> tuple[bytes, float]:
+def call_seconds(command: list[str], call: CallFrames, times: int) -> tuple[bytes, float]:
     """The output with the call, and the time that it takes."""
-    before, repeated, without = frames
-    output, seconds = timed_run(command, encode_frames(before + times * repeated))
-    _, seconds_without = timed_run(command, encode_frames(before + times * without))
+    output, seconds = timed_run(command, encode_frames(call.before + times * call.repeated))
+    _, seconds_without = timed_run(command, encode_frames(call.before + times * call.without))
     return output, (seconds - seconds_without) / times
 
 

@@ -1,5 +1,8 @@
 #!/usr/bin/env python3
-"""Feeds the same sessions to a program and to the model and compares the answers; without a program, to the model alone."""
+"""Feeds the same sessions to a program and to the model and compares the answers.
+
+Without a program it feeds them to the model alone, and tells what occurred.
+"""
 
 from __future__ import annotations
 

@@ -32,7 +32,6 @@ from terms import (
     Under,
     decode_body,
     decode_proof,
-    decode_term,
     is_improper,
     label,
     name_of,
@@ -380,7 +379,8 @@ def spoil_bytes(random: Random, data: bytes, alphabet: Sequence[int]) -> bytes:
 
 def near_limit(random: Random, limit: int, begin: Callable[[], bytes], end: bytes) -> bytes:
     """A string of about so many bytes that begins as it is drawn, perhaps with a fault near the limit."""
-    length = random.choice((*range(limit - 2, limit + 4), limit + 40, MOST_FRAME_BYTES - 2, random.randrange(limit, 1000)))
+    near = range(limit - 2, limit + 4)
+    length = random.choice((*near, limit + 40, MOST_FRAME_BYTES - 2, random.randrange(limit, 1000)))
     data = bytearray()
     while len(data) < length - len(end):
         data += begin()
@@ -450,7 +450,16 @@ def wrong_layout(random: Random, bodies: list[bytes]) -> bytes:
     return frame + random.randbytes(random.choice((1, 1, 2, 20)))
 
 
-BAD_SETUPS = (wrong_count, wrong_length, too_many_definitions, bad_bodies, bad_bodies, bad_bodies, several_rules, wrong_layout)
+BAD_SETUPS = (
+    wrong_count,
+    wrong_length,
+    too_many_definitions,
+    bad_bodies,
+    bad_bodies,
+    bad_bodies,
+    several_rules,
+    wrong_layout,
+)
 
 
 # Over terms
@@ -535,7 +544,7 @@ class TermDraws(Draws[Terms]):
         return random_proof(random, random.choice((1, 2, 3, 5, 8))).encoded[:MOST_STEP_BYTES]
 
     def changed(self, step: bytes) -> bytes:
-        """The step with a byte changed such that it is a proof still, mostly; or with another second part of a meeting."""
+        """The step with a byte changed such that it still is a proof, mostly; or with its last meeting turned."""
         random = self.random
         if random.random() < 0.3:
             return turned(random, decode_proof(step)).encoded[:MOST_STEP_BYTES]
@@ -648,13 +657,5 @@ def term_of_a_marking(random: Random) -> bytes:
         bytes([0x02, 0x01, a, 0x00, 0x01, b, 0x05, 0x00]),
         bytes([0x03, 0x01, a, 0x00, 0x01, b, 0x05, 0x00]),
         bytes([0x04, 0x03, 0x01, a, 0x01, b, 0x05, 0x00]),
-        bytes([0x02, 0x05, 0x00, 0x02, 0x05, 0x00, 0x05, 0x00])[:8],
+        bytes([0x02, 0x05, 0x00, 0x02, 0x05, 0x00, 0x05, 0x00]),
     ))
-
-
-def is_term(data: bytes, definitions: int) -> bool:
-    try:
-        decode_term(data, definitions)
-    except Misfit:
-        return False
-    return True

@@ -615,7 +615,8 @@ class Session:
         """The same over three loops side by side, behind choices that the first step makes."""
         random = self.random
         one, other = self.open_two()
-        total = random.choice((*range(MOST_STEPS - 1, MOST_STEPS + 2), random.randrange(MOST_STEPS, 2 * MOST_STEPS + 1)))
+        near = range(MOST_STEPS - 1, MOST_STEPS + 2)
+        total = random.choice((*near, random.randrange(MOST_STEPS, 2 * MOST_STEPS + 1)))
         least, most = max(0, total - MOST_STEPS), min(MOST_STEPS, total)
         shared = random.choice((0, random.randrange(most - least + 1)))
         own = random.randrange(least, most - shared + 1)
@@ -645,7 +646,8 @@ class Session:
         second = min(goal - 5 - first, 59)
         unguarded = random.random() < 0.5
         if unguarded:
-            self.send_setup(self.terms_of([Sum(Parallel(Prefix(0x01, Nil()), Call(1)), Call(0)), Sum(Prefix(0x02, Nil()), Call(1))]))
+            sides = Parallel(Prefix(0x01, Nil()), Call(1))
+            self.send_setup(self.terms_of([Sum(sides, Call(0)), Sum(Prefix(0x02, Nil()), Call(1))]))
             self.send(OPEN, number, Call(0).encoded)
             one, two = [ChooseRight] * first + [ChooseLeft, OnLeft], [ChooseRight] * second + [ChooseLeft]
         else:
@@ -735,7 +737,8 @@ class Session:
         own = chain([0x01], Nil())
         node, left, right = random.choice(((Sum, ChooseLeft, ChooseRight), (Parallel, OnLeft, OnRight)))
         depth = random.choice((*range(MOST_STEP_BYTES - 5, MOST_STEP_BYTES), random.randrange(MOST_STEP_BYTES)))
-        self.send_setup(self.terms_of([node(own, Call(1)), node(own, Call(0))] if random.random() < 0.5 else [node(own, Call(0))]))
+        count = random.choice((1, 2))
+        self.send_setup(self.terms_of([node(own, Call((number + 1) % count)) for number in range(count)]))
         self.send(OPEN, number, Call(0).encoded)
         self.send(ADD, number, behind([right] * depth + [left], Act(0x01)).encoded)
         turn = random.randrange(depth + 1)

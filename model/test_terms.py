@@ -210,14 +210,24 @@ NEXT_CASES: list[Case] = [
     ("a call", [LOOP, "B0000500"], "B1001001", "000500"),
     ("a call that does not move", [LOOP, "B0000205000500"], "B100111001", "000205000500"),
     ("a node that does not fit a body", [LOOP, "B0000500"], "B1001002", "06040000"),
-    ("a body that calls itself unguarded", [CROWD, "B0000500"], "B100121211" + "1001", "000201010002010100020005" + "00"),
+    (
+        "a body that calls itself unguarded",
+        [CROWD, "B0000500"],
+        "B100121211" + "1001",
+        "000201010002010100020005" + "00",
+    ),
     (
         "definitions that call each other",
         [setup("03 010100 0501", "02 0102 0500 0500"), "B0000500"],
         "B1001512151110" + "02",
         "0002" + "0102" + "0500" + "02" + "0500" + "0500",
     ),
-    ("a body that only calls itself does nothing", [setup("03 0500 0500"), "B0000500"], "B100" + 62 * "15" + "1001", "0604003E"),
+    (
+        "a body that only calls itself does nothing",
+        [setup("03 0500 0500"), "B0000500"],
+        "B100" + 62 * "15" + "1001",
+        "0604003E",
+    ),
     ("256 bytes follow", [LONG, "B0000205000500"], "B100111001", "0002" + 126 * "0101" + "00" + "0500"),
     ("257 bytes follow", [LONG, "B000020500010100"], "B100111001", "08040101"),
     ("507 bytes follow", [LONG, "B0000205000500", "B100111001"], "B100121001", "080401FB"),
@@ -233,7 +243,12 @@ NEXT_CASES: list[Case] = [
 REPLAY_CASES: list[Case] = [
     ("the start calls no definition now", [LOOP, "B0000500", NO_DEFINITIONS], "B500", "1002000004040000"),
     ("the start calls another definition", [LOOP, "B0000500", "B1001001", setup("010200")], "B500", "1002000106040000"),
-    ("the second step is not possible now", [LOOP, "B0000500", "B1001001", "B1001001", setup("010100")], "B300", "1002000206040000"),
+    (
+        "the second step is not possible now",
+        [LOOP, "B0000500", "B1001001", "B1001001", setup("010100")],
+        "B300",
+        "1002000206040000",
+    ),
     ("a state is too long now", [LOOP, "B000020500010100", "B100111001", LONG], "B300", "1002000108040101"),
     (
         "a net's start that is a term, and its step, which is no proof",
@@ -245,7 +260,7 @@ REPLAY_CASES: list[Case] = [
 
 
 def behind_choices(first: int, second: int) -> list[str]:
-    """Two sides behind so many choices, the second side behind more; a step of the first side, then one of the second."""
+    """Two sides behind so many choices, the second side behind more; a step of the one, then one of the other."""
     start = first * "0300" + "02010100" + second * "0300" + "010200"
     return ["B000" + start, "B100" + first * "15" + "111001", "B10012" + second * "15" + "1002"]
 
@@ -260,7 +275,12 @@ SWAP_CASES: list[Case] = [
         "00020301030002010100010200 0215121002 01111001 020000",
     ),
     ("one after the other", ["B00001010102" + "00", "B1001001", "B1001002"], "B20001", "0B020001"),
-    ("a meeting and what it leads to", ["B0000201010103000141" + "00", "B1001310011041", "B100111003"], "B20001", "0B020001"),
+    (
+        "a meeting and what it leads to",
+        ["B0000201010103000141" + "00", "B1001310011041", "B100111003"],
+        "B20001",
+        "0B020001",
+    ),
     (
         "a meeting and a step beside its end",
         ["B00002020101000102000141" + "00", "B1001311" + "10011041", "B10011121002"],
@@ -270,7 +290,12 @@ SWAP_CASES: list[Case] = [
     ("64 bytes of an answer", behind_choices(41, 20), "B20001", "00"),
     ("65 bytes of an answer", behind_choices(42, 20), "B20001", "0C040041"),
     ("the longest answer in a state without calls", behind_choices(61, 60), "B20001", "0C04007C"),
-    ("an answer too long leaves the steps", [*behind_choices(42, 20), "B20001"], "B300", "000200" + 20 * "0300" + "010200"),
+    (
+        "an answer too long leaves the steps",
+        [*behind_choices(42, 20), "B20001"],
+        "B300",
+        "000200" + 20 * "0300" + "010200",
+    ),
     (
         "a long state on the way",
         [LONG, "B0000203010100" + 20 * "0102" + "000500", "B10011141001", "B100121001"],
@@ -320,9 +345,24 @@ JOIN_CASES: list[Case] = [
         "B700",
         "00020301030002010100010200 0115111001 02121002 020000",
     ),
-    ("different choices", ["B00003010100010200", "B100141001", "B00103010100010200", "B101151002"], "B40001", "0E020001"),
-    ("equal labels are not the same step", ["B00003010100010100", "B100141001", "B00103010100010100", "B101151001"], "B40001", "0E020001"),
-    ("a meeting and one of its ends", ["B00002010100014100", "B1001310011041", "B00102010100014100", "B101111001"], "B40001", "0E020001"),
+    (
+        "different choices",
+        ["B00003010100010200", "B100141001", "B00103010100010200", "B101151002"],
+        "B40001",
+        "0E020001",
+    ),
+    (
+        "equal labels are not the same step",
+        ["B00003010100010100", "B100141001", "B00103010100010100", "B101151001"],
+        "B40001",
+        "0E020001",
+    ),
+    (
+        "a meeting and one of its ends",
+        ["B00002010100014100", "B1001310011041", "B00102010100014100", "B101111001"],
+        "B40001",
+        "0E020001",
+    ),
     ("starts that mean the same", [setup("010100"), "B0000500", "B001010100"], "B40001", "0D020000"),
     (
         "a state too long",
@@ -377,8 +417,18 @@ JOIN_CASES: list[Case] = [
         "B40001",
         "0F020022",
     ),
-    ("32 steps", [LOOP, "B0000205000500", *16 * ["B100111001"], "B0010205000500", *16 * ["B101121001"]], "B40001", "002000"),
-    ("33 steps", [LOOP, "B0000205000500", *16 * ["B100111001"], "B0010205000500", *17 * ["B101121001"]], "B40001", "0F020021"),
+    (
+        "32 steps",
+        [LOOP, "B0000205000500", *16 * ["B100111001"], "B0010205000500", *16 * ["B101121001"]],
+        "B40001",
+        "002000",
+    ),
+    (
+        "33 steps",
+        [LOOP, "B0000205000500", *16 * ["B100111001"], "B0010205000500", *17 * ["B101121001"]],
+        "B40001",
+        "0F020021",
+    ),
 ]
 
 
@@ -447,23 +497,23 @@ class QuestionsTest(unittest.TestCase):
         ("111001", "121002", "111001"),
         ("111001", "111001", None),
         ("11111001", "11121002", "11111001"),
-        ("11151110" + "01", "11151210" + "02", "11111001"),
+        ("1115111001", "1115121002", "11111001"),
         ("111001", "1310021042", None),
-        ("11111001", "1312" + "10021042", "11111001"),
-        ("1312" + "10021042", "11111001", "1312" + "10021042"),
-        ("12111001", "13" + "1002" + "121042", "12111001"),
-        ("12111001", "13" + "1002" + "111042", None),
-        ("13" + "111001" + "111041", "13" + "121002" + "121042", "13" + "111001" + "111041"),
-        ("13" + "111001" + "1041", "13" + "121002" + "1042", None),
-        ("13" + "15111001" + "14111041", "13" + "15121002" + "14121042", "13" + "111001" + "111041"),
+        ("11111001", "131210021042", "11111001"),
+        ("131210021042", "11111001", "131210021042"),
+        ("12111001", "131002121042", "12111001"),
+        ("12111001", "131002111042", None),
+        ("13111001111041", "13121002121042", "13111001111041"),
+        ("131110011041", "131210021042", None),
+        ("131511100114111041", "131512100214121042", "13111001111041"),
         ("141001", "141001", None),
         ("141001", "151001", None),
         ("14111001", "14121002", "111001"),
         ("1603111001", "1603121002", "1603111001"),
         ("1603111001", "1604121002", None),
         ("1603111001", "121002", None),
-        ("1601151310031043", "16011511" + "1002", None),
-        ("16011513111003111043", "160115111" + "21002", "16011311100311" + "1043"),
+        ("1601151310031043", "160115111002", None),
+        ("16011513111003111043", "16011511121002", "160113111003111043"),
     ]
 
     def test_left(self) -> None:
@@ -516,7 +566,8 @@ def random_term(random: Random, nodes: int, definitions: int = 0, guarded: bool 
         return Restriction(random.choice((1, 2)), random_term(random, nodes - 1, definitions, guarded))
     node = Sum if chance < 0.65 else Parallel
     cut = random.randrange(1, nodes - 1) if nodes > 2 else 1
-    return node(random_term(random, cut, definitions, guarded), random_term(random, nodes - 1 - cut, definitions, guarded))
+    left, right = (random_term(random, size, definitions, guarded) for size in (cut, nodes - 1 - cut))
+    return node(left, right)
 
 
 def random_terms(random: Random, nodes: int) -> tuple[Terms, Term]:
@@ -623,7 +674,10 @@ class PlacesTest(unittest.TestCase):
     """The places of strings that are no terms or proofs, against lists of all beginnings."""
 
     def beginnings(self, nodes: dict[bytes, int], length: int) -> tuple[list[set[bytes]], list[set[bytes]]]:
-        """The whole trees and their beginnings of each length up to this one; each node's bytes with its number of parts."""
+        """The whole strings and the beginnings of each length up to this one.
+
+        The nodes are given by their bytes, each with the number of its parts.
+        """
         whole: list[set[bytes]] = [set() for _ in range(length + 1)]
         begun: list[set[bytes]] = [set() for _ in range(length + 1)]
         for size in range(length + 1):
@@ -659,7 +713,9 @@ class PlacesTest(unittest.TestCase):
                 else:
                     self.assertIn(data, whole[size])
 
-    TERM_NODES = {b"\x00": 0, b"\x01\x00": 1, b"\x01\x01": 1, b"\x01\x02": 1, b"\x01\x03": 1, b"\x01\x04": 1, b"\x01\x05": 1, b"\x02": 2, b"\x03": 2} | {bytes([4, n]): 1 for n in range(1, 6)}
+    TERM_NODES = {b"\x00": 0, b"\x02": 2, b"\x03": 2}
+    TERM_NODES |= {bytes([0x01, action]): 1 for action in range(6)}
+    TERM_NODES |= {bytes([0x04, name]): 1 for name in range(1, 6)}
 
     def test_terms_without_definitions(self) -> None:
         self.check(self.TERM_NODES, bytes([0, 1, 2, 4, 5, 0x40]), 5, lambda data: decode_term(data, 0))
