@@ -1,5 +1,5 @@
 #!/usr/bin/env python3
-"""Times a program and the model on the same long inputs: a random session, and joins of long runs."""
+"""Times a program and the model on the same inputs: a long random session, joins of long runs, calls on long terms."""
 
 from __future__ import annotations
 
@@ -7,18 +7,27 @@ import argparse
 import subprocess
 import sys
 import time
-from collections.abc import Iterable
+from collections.abc import Callable, Iterable
 from dataclasses import dataclass
 from pathlib import Path
 
-from generate import ADD, JOIN, OPEN, generate_session, setup_frame
-from sheetbench import CONDITIONS, Event, encode_set
+from draw_nets import setup_frame
+from draw_terms import behind, chain, choices
+from draw_terms import setup_frame as terms_setup
+from drawing import ADD, JOIN, OPEN, PRINT, RELEASE, SWAP, WITHDRAW
+from generate import generate_session
+from nets import CONDITIONS, Event, encode_set
+from terms import Act, Both, Call, ChooseRight, Nil, OnLeft, OnRight, Parallel, Prefix, Proof, Term
 
 MODEL = [sys.executable, str(Path(__file__).resolve().parent / "sheetbench.py")]
 SEED = 1
 FRAMES = 200_000
 SESSION_FRAMES = 10_000
 JOINS = 2_000
+# How often a call on a long term is made.
+PROGRAM_CALLS = 4_000
+MODEL_CALLS = 400
+TERM_BYTES = (64, 128, 256)
 
 
 def benchmark_input() -> tuple[bytes, int]:
@@ -106,6 +115,115 @@ def join_seconds(command: list[str], case: JoinCase) -> tuple[bytes, float]:
     return output, (seconds - seconds_without) / JOINS
 
 
+# Calls on long terms
+
+
+@dataclass
+class CallFrames:
+    """The frames before, those that are repeated with the call, and those of them without it."""
+
+    before: list[bytes]
+    repeated: list[bytes]
+    without: list[bytes]
+
+
+@dataclass
+class TermCase:
+    """A start, and two independent steps of it; the second is also what is left of it after the first."""
+
+    name: str
+    start: Term
+    first: Proof
+    second: Proof
+    second_later: Proof
+    bodies: tuple[Term, ...] = (Nil(),)
+
+    def calls(self) -> dict[str, CallFrames]:
+        start, first, second = (tree.encoded for tree in (self.start, self.first, self.second))
+        begin = [terms_setup([body.encoded for body in self.bodies])]
+        opening = [bytes([OPEN, 0]) + start]
+        adding = [*opening, bytes([ADD, 0]) + first]
+        both = [*adding, bytes([ADD, 0]) + self.second_later.encoded]
+        beside = [bytes([OPEN, 1]) + start, bytes([ADD, 1]) + second]
+        return {
+            "open": CallFrames(begin, opening, []),
+            "add": CallFrames(begin, adding, opening),
+            "withdraw": CallFrames(begin, [*adding, bytes([WITHDRAW, 0])], adding),
+            "swap": CallFrames(begin + both, [bytes([SWAP, 0, 1])], []),
+            "join": CallFrames(begin + beside, [*adding, bytes([JOIN, 0, 1])], adding),
+            "print": CallFrames(begin + both + [bytes([RELEASE, 0])], [bytes([PRINT, 0])], []),
+        }
+
+
+def two_ends(length: int) -> Parallel:
+    """Two prefixes side by side, in just so many bytes, at least 7."""
+    first = max(1, (length - 5) // 4)
+    second = length - 2 - 2 * first
+    return Parallel(chain([0x01] * first, Nil()), of_length(second, 0x02))
+
+
+def of_length(length: int, action: int) -> Term:
+    """A chain of just so many bytes; one of an even number ends with a call."""
+    return chain([action] * ((length - 1) // 2), Nil() if length % 2 else Call(0))
+
+
+def nested_case(name: str, size: int, side: type, wrap: Callable[[Term], Term], vanishes: bool) -> TermCase:
+    """Two prefixes side by side below as many nodes as a step has room for."""
+    depth = min((size - 8) // 2, 61)
+    start: Term = two_ends(size - 2 * depth)
+    for _ in range(depth):
+        start = wrap(start)
+    outer = [side] * depth
+    first, second = behind([*outer, OnLeft], Act(0x01)), behind([*outer, OnRight], Act(0x02))
+    later = OnRight(Act(0x02)) if vanishes else second
+    return TermCase(f"{name}, {size} bytes", start, first, second, later)
+
+
+def meeting_case(size: int) -> TermCase:
+    """Two sides, each with prefixes below many nodes: a meeting, and a step beside one of its ends."""
+    depth = min((size // 2 - 8) // 2, 28)
+    sides: list[Term] = []
+    for action, rest in ((0x01, size // 2 - 1), (0x41, size - size // 2)):
+        length = rest - 2 * depth
+        side: Term = Parallel(Prefix(action, Nil()), of_length(length - 4, 0x02))
+        for _ in range(depth):
+            side = Parallel(Nil(), side)
+        sides.append(side)
+    outer = [OnRight] * depth
+    meeting = Both(behind([*outer, OnLeft], Act(0x01)), behind([*outer, OnLeft], Act(0x41)))
+    beside = OnLeft(behind([*outer, OnRight], Act(0x02)))
+    return TermCase(f"meetings, {size} bytes", Parallel(sides[0], sides[1]), meeting, beside, beside)
+
+
+def unfolding_case(size: int) -> TermCase:
+    """A call that is unfolded at each node on the way, and grows to about so many bytes."""
+    depth = min((size - 4) // 4, 61)
+    body = Parallel(Prefix(0x01, Nil()), Call(0))
+    first = behind([OnRight] * depth + [OnLeft], Act(0x01))
+    second = behind([OnLeft], Act(0x01))
+    return TermCase(f"calls unfolded to {4 * depth + 4} bytes", Call(0), first, second, second, (body,))
+
+
+def term_cases() -> list[TermCase]:
+    found = []
+    for size in TERM_BYTES:
+        found += [
+            nested_case("parallels nested to the right", size, OnRight, lambda term: Parallel(Nil(), term), False),
+            nested_case("parallels nested to the left", size, OnLeft, lambda term: Parallel(term, Nil()), False),
+            nested_case("choices nested to the right", size, ChooseRight, lambda term: choices(1, term), True),
+            meeting_case(size),
+            unfolding_case(size),
+        ]
+    return found
+
+
+def call_seconds(command: list[str], call: CallFrames, times: int) -> tuple[bytes, float]:
+    """The output with the call, and the time that it takes."""
+    output, seconds = timed_run(command, encode_frames(call.before + times * call.repeated))
+    _, seconds_without = timed_run(command, encode_frames(call.before + times * call.without))
+    return output, (seconds - seconds_without) / times
+
+
 # Reports; each says whether the outputs are the same
 
 
@@ -134,11 +252,28 @@ def report_join(program: list[str], case: JoinCase) -> bool:
     return True
 
 
+def report_term(program: list[str], case: TermCase) -> bool:
+    same = True
+    times = []
+    for call, frames in case.calls().items():
+        output, seconds = call_seconds(program, frames, PROGRAM_CALLS)
+        model_output, model_seconds = call_seconds(MODEL, frames, MODEL_CALLS)
+        times.append(f"{call} {1e6 * seconds:,.1f} ({1e6 * model_seconds:,.0f})")
+        refused = [line for line in model_output.splitlines() if line[:2] in (b"01", b"05", b"06", b"08", b"0B", b"0C")]
+        if not output.startswith(model_output):
+            times.append("the outputs differ")
+            same = False
+        assert call == "print" or not refused, refused[0]
+    print(f"{case.name}, in µs (the model's): {', '.join(times)}")
+    return same
+
+
 def main() -> int:
     parser = argparse.ArgumentParser(description=__doc__)
     parser.add_argument("program", type=Path, metavar="PROGRAM")
     program = [str(parser.parse_args().program.resolve())]
     same = [report_session(program), *(report_join(program, case) for case in JOIN_CASES)]
+    same += [report_term(program, case) for case in term_cases()]
     return 0 if all(same) else 1
 
 

@@ -1,4 +1,4 @@
-"""Exchanges, extension and conflict by search, straight from what the words mean.
+"""The steps of terms; exchanges, extension and conflict by search, straight from what the words mean.
 
 Nothing here carries a step through a run, so it can judge what does. It is
 for small runs only: a run of n steps can have n! orders.
@@ -10,7 +10,43 @@ from collections.abc import Callable, Iterable, Iterator
 from dataclasses import dataclass
 from typing import Generic
 
-from sheetbench import E, S, System
+from systems import E, S, System
+from terms import (
+    Act,
+    Both,
+    ChooseLeft,
+    ChooseRight,
+    OnLeft,
+    OnRight,
+    Parallel,
+    Prefix,
+    Proof,
+    Restriction,
+    Sum,
+    Term,
+    Terms,
+    Under,
+    is_improper,
+)
+
+
+def possible_proofs(terms: Terms, term: Term) -> list[Proof]:
+    """All steps that are possible in a term whose calls are guarded: no body comes to a call but behind a prefix."""
+    match terms.unfolded(term):
+        case Prefix(action, _):
+            return [Act(action)]
+        case Sum(left, right):
+            first = [ChooseLeft(proof) for proof in possible_proofs(terms, left)]
+            return first + [ChooseRight(proof) for proof in possible_proofs(terms, right)]
+        case Parallel(left, right):
+            lefts, rights = possible_proofs(terms, left), possible_proofs(terms, right)
+            meetings = [Both(one, other) for one in lefts for other in rights]
+            alone = [*map(OnLeft, lefts), *map(OnRight, rights)]
+            return alone + [proof for proof in meetings if not is_improper(proof)]
+        case Restriction(name, inner):
+            shown = [Under(name, proof) for proof in possible_proofs(terms, inner)]
+            return [proof for proof in shown if not is_improper(proof)]
+    return []
 
 
 @dataclass

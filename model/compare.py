@@ -1,5 +1,8 @@
 #!/usr/bin/env python3
-"""Feeds the same sessions to a program and to the model and compares the answers."""
+"""Feeds the same sessions to a program and to the model and compares the answers.
+
+Without a program it feeds them to the model alone, and tells what occurred.
+"""
 
 from __future__ import annotations
 
@@ -15,7 +18,7 @@ from sheetbench import Server, split_lines
 from tally import Tally, answer_with_names
 
 DEFAULT_SEEDS = tuple(range(1, 17))
-DEFAULT_FRAMES = 2500
+DEFAULT_FRAMES = 5000
 PROGRAM_SECONDS = 60
 SHOWN = 300
 
@@ -24,9 +27,10 @@ EDGES = (
     b"",
     b"\n",
     b"\n\n\n",
-    b"B0000000000000000001",
+    b"B00000",
+    b"B00000\n",
+    b"B00000\r\nB500\r\n",
     b"B0000000000000000001\n",
-    b"B0000000000000000001\r\nB500\r\n",
     b" ",
     b"0",
     b"B500\n\nB5",
@@ -79,13 +83,13 @@ def shorten(data: bytes) -> str:
     return text if len(text) <= SHOWN else f"{text[:SHOWN]}... ({len(data)} bytes)"
 
 
-def compare_session(program: Path, name: str, data: bytes, tally: Tally) -> tuple[int, bool]:
+def compare_session(program: Path | None, name: str, data: bytes, tally: Tally) -> tuple[int, bool]:
     """The number of frames answered alike, and whether all is well."""
     lines = split_lines(data)
     server = Server()
     answered = [answer_with_names(server, line) for line in lines]
     answers = [answer for answer, _ in answered]
-    output, ending = run_program(program, data)
+    output, ending = run_program(program, data) if program else (b"".join(answers), "")
     difference = first_difference(lines, answers, output)
     passed = difference.frame if difference else len(lines)
     for line, (answer, names) in zip(lines[:passed], answered):
@@ -107,7 +111,7 @@ def sessions(seeds: list[int], frames: int) -> Iterator[tuple[str, bytes]]:
         yield f"seed {seed}", generate(seed, frames)
 
 
-def compare(program: Path, seeds: list[int], frames: int) -> bool:
+def compare(program: Path | None, seeds: list[int], frames: int) -> bool:
     tally = Tally()
     passed = 0
     for name, data in sessions(seeds, frames):
@@ -130,11 +134,12 @@ def seed_list(text: str) -> list[int]:
 
 def main() -> int:
     parser = argparse.ArgumentParser(description=__doc__)
-    parser.add_argument("program", type=Path, metavar="PROGRAM")
+    parser.add_argument("program", type=Path, nargs="?", metavar="PROGRAM")
     parser.add_argument("--frames", type=int, default=DEFAULT_FRAMES, metavar="N", help="frames for each seed")
     parser.add_argument("--seeds", type=seed_list, default=list(DEFAULT_SEEDS), metavar="A,B,..")
     arguments = parser.parse_args()
-    return 0 if compare(arguments.program.resolve(), arguments.seeds, arguments.frames) else 1
+    program = arguments.program.resolve() if arguments.program else None
+    return 0 if compare(program, arguments.seeds, arguments.frames) else 1
 
 
 if __name__ == "__main__":

@@ -10,33 +10,46 @@ from __future__ import annotations
 import argparse
 import sys
 from collections.abc import Callable
-from dataclasses import replace
 from random import Random
+from typing import Any
 
-from sheetbench import (
-    CONDITIONS,
-    EVENT_BYTES,
-    KIND_NET,
-    MOST_EVENTS,
-    MOST_FRAME_BYTES,
-    MOST_STEPS,
-    SET_BYTES,
-    SHEETS,
-    Event,
-    Marking,
-    Net,
-    Refusal,
-    Server,
-    Sheet,
-    Standing,
-    encode_set,
+from draw_nets import (
+    STOPPING_ALTERATIONS,
+    NetDraws,
+    event_between,
+    full_net,
+    long_ring_net,
+    random_conditions,
+    random_net,
+    ring_events,
+    rings_net,
+    tangled_net,
+    tokens_net,
+    too_many_events_net,
 )
+from draw_nets import setup_frame as net_setup
+from draw_terms import (
+    TermDraws,
+    behind,
+    chain,
+    choices,
+    chosen_terms,
+    crowding_terms,
+    filler,
+    growing_terms,
+    looping_terms,
+    nested_terms,
+    random_terms,
+    term_of_a_marking,
+)
+from drawing import ADD, CALLS, JOIN, OPEN, PRINT, RELEASE, REOPEN, SETUP, SWAP, WITHDRAW, Draws, random_action
+from nets import CONDITIONS, Event, Net, decode_set, encode_set
+from sheetbench import KIND_TERMS, MOST_DEFINITIONS, MOST_FRAME_BYTES, MOST_STEPS, SHEETS, Server, Sheet, Standing
+from systems import MOST_STATE_BYTES, MOST_STEP_BYTES, Refusal, System
+from terms import Act, Call, ChooseLeft, ChooseRight, Nil, OnLeft, OnRight, Parallel, Prefix, Sum, Terms
 
-SETUP, OPEN, ADD, SWAP, WITHDRAW, JOIN, RELEASE, REOPEN, PRINT = 0xA0, *range(0xB0, 0xB8)
-CALLS = (SETUP, OPEN, ADD, SWAP, WITHDRAW, JOIN, RELEASE, REOPEN, PRINT)
 REPLAYING_CALLS = (ADD, SWAP, WITHDRAW, JOIN, RELEASE, REOPEN, PRINT)
 NO_CALLS = (0x00, 0x9F, 0xA1, 0xAF, 0xB8, 0xB9, 0xBA, 0xC0, 0xFF)
-NO_ACTIONS = (0x40, 0x80, 0x81, 0xBF, 0xC1, 0xFF)
 DIGITS = b"0123456789ABCDEF"
 # Neighbours of the digits in ASCII, blanks, and bytes outside ASCII.
 NO_DIGITS = (b"G", b"g", b"/", b":", b"@", b"`", b" ", b"\r", b"\t", b"x", b"-", b"\0", b"\x7f", b"\xc3", b"\xff")
@@ -50,292 +63,6 @@ def call_needs(call: int) -> tuple[Standing, ...]:
     if call in (REOPEN, PRINT):
         return (Standing.RELEASED,)
     return (Standing.OPEN,)
-
-
-def setup_frame(events: list[Event], pairs: bytes = b"", masked: bytes = b"") -> bytes:
-    head = bytes([SETUP, KIND_NET, len(pairs) // 2]) + pairs + bytes([len(masked)]) + masked
-    return head + bytes([len(events)]) + b"".join(event.encode() for event in events)
-
-
-# Nets
-
-
-def random_action(random: Random) -> int:
-    """Any action, with the ends of their ranges often."""
-    if random.random() < 0.3:
-        return random.choice((0x00, 0x01, 0x3F, 0x41, 0x7F))
-    return random.choice((random.randrange(0x01, 0x40), random.randrange(0x41, 0x80)))
-
-
-def random_conditions(random: Random, count: int) -> list[int]:
-    """Different conditions, with both ends often among them."""
-    conditions = random.sample(range(1, CONDITIONS - 1), min(count, CONDITIONS - 2))
-    if random.random() < 0.5:
-        conditions[0] = 0
-    if random.random() < 0.5:
-        conditions[-1] = CONDITIONS - 1
-    return conditions
-
-
-def event_between(random: Random, before: list[int], after: list[int]) -> Event:
-    return Event(random_action(random), frozenset(before), frozenset(after))
-
-
-def ring_events(random: Random, ring: list[int]) -> list[Event]:
-    """One event from each condition of the ring to the next."""
-    nexts = ring[1:] + ring[:1]
-    return [event_between(random, [c], [following]) for c, following in zip(ring, nexts)]
-
-
-def ring_net(random: Random) -> list[Event]:
-    size = random.choice((2, 3, 5, 8, 20, 40, MOST_EVENTS))
-    return ring_events(random, random_conditions(random, size))
-
-
-def long_ring_net(random: Random) -> list[Event]:
-    """A ring in which no event comes twice in a full sheet."""
-    size = random.choice((MOST_STEPS, MOST_STEPS + 1, MOST_EVENTS))
-    return ring_events(random, random_conditions(random, size))
-
-
-def rings_net(random: Random) -> list[Event]:
-    """A few small rings side by side."""
-    conditions = random_conditions(random, 12)
-    events = []
-    while conditions:
-        size = min(len(conditions), random.choice((2, 3, 4)))
-        ring, conditions = conditions[:size], conditions[size:]
-        if size > 1:
-            events += ring_events(random, ring)
-    return events
-
-
-def tokens_net(random: Random) -> list[Event]:
-    """Tokens, each with a few conditions of its own to go round, and events that move one or two of them.
-
-    Some events come twice, with two numbers.
-    """
-    conditions = random_conditions(random, 20)
-    homes = []
-    while len(conditions) > 1 and len(homes) < 6:
-        size = random.choice((2, 3, 4))
-        homes.append(conditions[:size])
-        conditions = conditions[size:]
-    events = []
-    for _ in range(random.choice((6, 12, 20, 30))):
-        moves = [random.sample(home, 2) for home in random.sample(homes, random.choice((1, 1, 1, 2)))]
-        events.append(event_between(random, [before for before, _ in moves], [after for _, after in moves]))
-    return events + random.sample(events, random.choice((0, 3, 6)))
-
-
-def tangled_net(random: Random) -> list[Event]:
-    """Small disjoint sets over few conditions; some events have their reverse."""
-    conditions = random_conditions(random, random.randrange(3, 9))
-    events = []
-    for _ in range(random.choice((1, 4, 10, 20))):
-        drawn = random.sample(conditions, random.randrange(2, min(5, len(conditions) + 1)))
-        cut = random.randrange(1, len(drawn))
-        events.append(event_between(random, drawn[:cut], drawn[cut:]))
-        if random.random() < 0.6:
-            events.append(event_between(random, drawn[cut:], drawn[:cut]))
-    return events
-
-
-def wide_net(random: Random) -> list[Event]:
-    """Sets that share out most or all of the conditions, there and back."""
-    events = []
-    for _ in range(random.randrange(1, 4)):
-        drawn = random.sample(range(CONDITIONS), random.choice((40, CONDITIONS - 1, CONDITIONS)))
-        cut = random.randrange(1, len(drawn))
-        events.append(event_between(random, drawn[:cut], drawn[cut:]))
-        events.append(event_between(random, drawn[cut:], drawn[:cut]))
-    return events
-
-
-def full_net(random: Random) -> list[Event]:
-    """As many events as there may be."""
-    events: list[Event] = []
-    while len(events) < MOST_EVENTS:
-        events += tangled_net(random)
-    return events[:MOST_EVENTS]
-
-
-def empty_net(random: Random) -> list[Event]:
-    return []
-
-
-NETS: dict[Callable[[Random], list[Event]], int] = {
-    ring_net: 8,
-    rings_net: 6,
-    tokens_net: 8,
-    tangled_net: 8,
-    wide_net: 3,
-    full_net: 3,
-    empty_net: 1,
-}
-
-
-def random_net(random: Random) -> list[Event]:
-    return random.choices(list(NETS), list(NETS.values()))[0](random)
-
-
-# Alterations of a net, aimed at one of its events
-
-
-def cut_off(random: Random, events: list[Event], index: int) -> list[Event]:
-    """The event and those behind it are no events any more."""
-    return events[:index]
-
-
-def replace_sets(random: Random, events: list[Event], index: int) -> list[Event]:
-    """The event gets other sets."""
-    drawn = random.sample(range(CONDITIONS), 2)
-    event = replace(events[index], before=frozenset(drawn[:1]), after=frozenset(drawn[1:]))
-    return events[:index] + [event] + events[index + 1 :]
-
-
-def reverse_event(random: Random, events: list[Event], index: int) -> list[Event]:
-    old = events[index]
-    event = replace(old, before=old.after, after=old.before)
-    return events[:index] + [event] + events[index + 1 :]
-
-
-def widen_event(random: Random, events: list[Event], index: int) -> list[Event]:
-    """The event takes in one more condition, before or after."""
-    old = events[index]
-    free = sorted(set(range(CONDITIONS)) - old.before - old.after)
-    if not free:
-        return events
-    extra = {random.choice(free)}
-    if random.random() < 0.5:
-        event = replace(old, before=old.before | extra)
-    else:
-        event = replace(old, after=old.after | extra)
-    return events[:index] + [event] + events[index + 1 :]
-
-
-def change_actions(random: Random, events: list[Event], index: int) -> list[Event]:
-    """Only the labels change."""
-    return [replace(event, action=random_action(random)) for event in events]
-
-
-def permute_events(random: Random, events: list[Event], index: int) -> list[Event]:
-    return random.sample(events, len(events))
-
-
-def append_events(random: Random, events: list[Event], index: int) -> list[Event]:
-    return (events + tangled_net(random))[:MOST_EVENTS]
-
-
-ALTERATIONS = {
-    cut_off: 4,
-    replace_sets: 3,
-    reverse_event: 3,
-    widen_event: 3,
-    change_actions: 2,
-    permute_events: 2,
-    append_events: 1,
-}
-
-
-# Those by which the event ceases to be possible where it was, or to be one
-STOPPING_ALTERATIONS = (cut_off, replace_sets, reverse_event, widen_event)
-
-
-# Setups that are refused
-
-
-def wrong_kind(random: Random, events: list[Event]) -> bytes:
-    frame = bytearray(setup_frame(events))
-    frame[1] = random.choice((0x00, 0x01, 0x03, 0x04, 0x82, random.randrange(3, 256)))
-    if random.random() < 0.5:
-        del frame[random.randrange(2, len(frame) + 1) :]
-    elif random.random() < 0.5:
-        frame += random.randbytes(random.randrange(1, 30))
-    return bytes(frame)
-
-
-def some_pairs(random: Random, events: list[Event]) -> bytes:
-    pairs = random.randbytes(2 * random.choice((1, 2, 3, 50)))
-    masked = random.randbytes(random.choice((0, 0, 1, 4)))
-    return setup_frame(events[:20], pairs, masked)
-
-
-def some_masked(random: Random, events: list[Event]) -> bytes:
-    return setup_frame(events[:20], masked=random.randbytes(random.choice((1, 2, 3, 100, 255))))
-
-
-def too_many_events(random: Random, events: list[Event]) -> bytes:
-    most = (MOST_FRAME_BYTES - 5) // EVENT_BYTES
-    count = random.choice((MOST_EVENTS + 1, most, random.randrange(MOST_EVENTS + 1, most + 1)))
-    while len(events) < count:
-        events = events + tangled_net(random)
-    return setup_frame(events[:count])
-
-
-def spoil_event(random: Random, event: Event) -> Event:
-    """The event with one or more rules broken."""
-    nothing: Marking = frozenset()
-    either = event.before | event.after
-    return random.choice((
-        replace(event, action=random.choice(NO_ACTIONS)),
-        replace(event, action=random.choice((0x40, random.randrange(0x80, 0x100)))),
-        replace(event, before=nothing),
-        replace(event, after=nothing),
-        replace(event, before=nothing, after=nothing),
-        replace(event, before=either),
-        replace(event, after=either),
-        replace(event, before=event.after),
-        replace(event, action=0x40, before=nothing),
-    ))
-
-
-def bad_events(random: Random, events: list[Event]) -> bytes:
-    """One or several events that break rules."""
-    events = list(events) or tangled_net(random)
-    for index in random.sample(range(len(events)), min(len(events), random.choice((1, 1, 2, 3)))):
-        events[index] = spoil_event(random, events[index])
-    return setup_frame(events)
-
-
-def several_rules(random: Random, events: list[Event]) -> bytes:
-    """More than one rule broken, in different parts of the frame."""
-    spoiled = [spoil_event(random, event) for event in events[:3] or tangled_net(random)[:3]]
-    pairs = random.randbytes(2 * random.choice((0, 1)))
-    masked = random.randbytes(random.choice((0, 1)))
-    return setup_frame(spoiled, pairs, masked)
-
-
-def wrong_layout(random: Random, events: list[Event]) -> bytes:
-    """Missing or extra bytes, perhaps with a broken rule as well."""
-    frame = random.choice((some_pairs, some_masked, bad_events, several_rules))(random, events)
-    if random.random() < 0.3:
-        frame = setup_frame(events)
-    if random.random() < 0.6:
-        return frame[: random.randrange(1, len(frame))]
-    return frame + random.randbytes(random.choice((1, 1, 2, EVENT_BYTES)))
-
-
-def wrong_count(random: Random, events: list[Event]) -> bytes:
-    """The count of events is not that of the events that follow."""
-    frame = bytearray(setup_frame(events))
-    frame[4] = random.choice((0, max(0, len(events) - 1), len(events) + 1, 0x80, 0xFF))
-    return bytes(frame)
-
-
-BAD_SETUPS = (
-    wrong_kind,
-    some_pairs,
-    some_masked,
-    too_many_events,
-    bad_events,
-    bad_events,
-    several_rules,
-    wrong_layout,
-    wrong_layout,
-    wrong_count,
-)
-
 
 # Lines that are spoiled
 
@@ -416,18 +143,15 @@ class Session:
         self.random = Random(seed)
         self.server = Server()
         self.lines: list[bytes] = []
-        # For each sheet a net in which it replays.
-        self.homes: dict[int, Net] = {}
+        # For each sheet a system in which it replays.
+        self.homes: dict[int, Draws[Any]] = {}
+        self.draws: Draws[Any] = TermDraws(self.random, Terms())
 
     # The state of the bench
 
     @property
-    def net(self) -> Net:
+    def system(self) -> System[Any, Any]:
         return self.server.bench.system
-
-    @property
-    def events(self) -> list[Event]:
-        return list(self.net.events)
 
     def sheet(self, number: int) -> Sheet:
         return self.server.bench.sheets[number]
@@ -435,7 +159,7 @@ class Session:
     def with_standing(self, *standings: Standing) -> list[int]:
         return [n for n in range(SHEETS) if self.sheet(n).standing in standings]
 
-    def end(self, number: int) -> Marking | None:
+    def end(self, number: int) -> Any:
         """The end state of a sheet, or None where its replay is stopped."""
         try:
             return self.server.bench.replay(self.sheet(number)).end
@@ -448,8 +172,10 @@ class Session:
         """Adds a line; says whether its call is accepted."""
         self.lines.append(line)
         accepted = self.server.answer(line).startswith(b"00")
+        if accepted and line[:2].upper() == b"A0":
+            self.draws = draws_over(self.random, self.system)
         if accepted and line[:2].upper() in (b"B0", b"B1", b"B2", b"B4"):
-            self.homes[int(line[2:4], 16)] = self.net
+            self.homes[int(line[2:4], 16)] = self.draws
         return accepted
 
     def send(self, *parts: int | bytes) -> bool:
@@ -468,57 +194,18 @@ class Session:
         """A sheet that takes the call, if there is one."""
         return self.random.choice(self.with_standing(*call_needs(call)) or range(SHEETS))
 
-    def good_state(self) -> bytes:
-        """A state in which something is often possible."""
-        random = self.random
-        marking: set[int] = set()
-        used = sorted(set().union(*(e.before | e.after for e in self.events)))
-        chance = random.random()
-        if self.events and chance < 0.35:
-            marking |= random.choice(self.events).before
-        elif self.events and chance < 0.5:
-            marking |= self.events[0].before
-        elif chance < 0.9:
-            marking |= {c for c in used if random.random() < 0.5}
-        elif chance < 0.93:
-            marking |= set(range(CONDITIONS))
-        if random.random() < 0.3:
-            marking |= {c for c in range(CONDITIONS) if c not in used and random.random() < 0.5}
-        return encode_set(marking)
-
-    def lively_state(self) -> bytes:
-        """A state in which many events are possible, also such as shut each other out."""
-        hold: set[int] = set()
-        free: set[int] = set()
-        for event in self.random.sample(self.events, len(self.events)):
-            if event.before.isdisjoint(free) and event.after.isdisjoint(hold):
-                hold |= event.before
-                free |= event.after
-        return encode_set(hold)
-
-    def wrong_state(self) -> bytes:
-        lengths = (*range(SET_BYTES), *range(SET_BYTES + 1, 14), 255, 256, 257, 300, MOST_FRAME_BYTES - 2)
-        return self.random.randbytes(self.random.choice(lengths))
-
-    def possible_steps(self, number: int) -> list[int]:
-        marking = self.end(number)
-        if marking is None:
-            return []
-        return [i for i, event in enumerate(self.net.events) if event.is_possible(marking)]
+    def possible_steps(self, number: int) -> list[bytes]:
+        """Steps that are possible at the end of a sheet: all, or some of many."""
+        end = self.end(number)
+        return [] if end is None else self.draws.possible_steps(end)
 
     def possible_step(self, number: int) -> bytes | None:
-        possible = self.possible_steps(number)
-        return bytes([self.random.choice(possible)]) if possible else None
+        end = self.end(number)
+        return None if end is None else self.draws.possible_step(end)
 
-    def some_step(self) -> bytes:
-        """The number of an event, possible or not."""
-        return bytes([self.random.randrange(len(self.events))]) if self.events else b"\x00"
-
-    def wrong_step(self) -> bytes:
-        random = self.random
-        beyond = bytes([random.choice((len(self.events), len(self.events) + 1, 0x80, 0xFF))])
-        more = random.randbytes(random.choice((1, 1, 2, 8, 100, MOST_FRAME_BYTES - 3)))
-        return random.choice((b"", beyond, beyond, beyond + more, self.some_step() + more, self.some_step() + more))
+    def some_step(self, number: int) -> bytes:
+        """A step for this sheet, possible or not."""
+        return self.draws.some_step(self.end(number) if number < SHEETS else None)
 
     def swap_places(self, number: int) -> list[int]:
         """The places at which the steps of a sheet can be swapped."""
@@ -526,7 +213,8 @@ class Session:
             steps = self.server.bench.replay(self.sheet(number)).steps
         except Refusal:
             return []
-        return [place for place in range(1, len(steps)) if self.net.independent(*steps[place - 1 : place + 1])]
+        back = self.system.back
+        return [place for place in range(1, len(steps)) if back(*steps[place - 1 : place + 1]) is not None]
 
     def some_place(self, number: int) -> int:
         """A place for a swap, mostly one that works."""
@@ -549,13 +237,13 @@ class Session:
         """A frame of any call that may well be accepted."""
         call = self.random.choice(CALLS)
         if call == SETUP:
-            return setup_frame(self.events if self.random.random() < 0.7 else random_net(self.random))
+            return (self.draws if self.random.random() < 0.7 else self.any_system()).setup()
         number = self.sheet_for(call)
         head = bytes([call, number])
         if call == OPEN:
-            return head + self.good_state()
+            return head + self.draws.good_state()
         if call == ADD:
-            return head + (self.possible_step(number) or self.some_step())
+            return head + (self.possible_step(number) or self.some_step(number))
         if call == SWAP:
             return head + bytes([self.some_place(number)])
         if call == JOIN:
@@ -564,14 +252,28 @@ class Session:
 
     # Moves of good sense
 
-    def send_setup(self, events: list[Event]) -> None:
-        self.send(setup_frame(events))
+    def send_setup(self, draws: Draws[Any]) -> None:
+        if self.send(draws.setup()):
+            self.draws = draws
+
+    def any_system(self) -> Draws[Any]:
+        """A new system of either kind."""
+        # most of what is only over one kind is over terms
+        if self.random.random() < 0.35:
+            return random_terms(self.random)
+        return self.net_of(random_net(self.random))
+
+    def net_of(self, events: list[Event]) -> NetDraws:
+        return NetDraws(self.random, Net(events))
+
+    def terms_of(self, bodies: list[Any], start: Any = None) -> TermDraws:
+        return TermDraws(self.random, Terms(bodies), start)
 
     def free(self, number: int) -> None:
-        """Reopens a released sheet, in a net where it replays."""
+        """Reopens a released sheet, in a system where it replays."""
         if self.sheet(number).standing is Standing.RELEASED:
             if self.end(number) is None:
-                self.send_setup(list(self.homes[number].events))
+                self.send_setup(self.homes[number])
             self.send(REOPEN, number)
 
     def settle(self) -> None:
@@ -579,40 +281,70 @@ class Session:
         for number in range(SHEETS):
             self.free(number)
 
-    def new_net(self) -> None:
+    def new_system(self) -> None:
         for number in self.with_standing(Standing.RELEASED):
             if self.random.random() < 0.8:
                 self.free(number)
-        self.send_setup(random_net(self.random))
-        for number in self.random.sample(range(SHEETS), self.random.randrange(1, SHEETS + 1)):
-            self.send(OPEN, number, self.good_state())
+        self.send_setup(self.any_system())
+        for number in self.random.sample(range(SHEETS), self.random.choice((1, 2, 3, 4, 4))):
+            self.send(OPEN, number, self.draws.good_state())
 
-    def alter_net(self) -> None:
-        """Changes the net below the sheets, tries them, and often changes it back."""
+    def alter_system(self) -> None:
+        """Changes the system below the sheets, tries them, and often changes it back."""
         random = self.random
-        old = self.events
+        old = self.draws
         used = [n for n in range(SHEETS) if self.sheet(n).steps]
-        if not old or not used:
-            self.new_net()
+        number = random.choice(used) if used else self.any_sheet()
+        altered = old.altered(self.sheet(number).start, self.sheet(number).steps)
+        if altered is None:
+            self.new_system()
             return
-        number = random.choice(used)
-        events_used = list(dict.fromkeys(step[0] for step in self.sheet(number).steps))
-        aim = random.choice((random.choice(events_used), events_used[-1]))
-        if aim >= len(old):
-            aim = random.randrange(len(old))
-        alteration = random.choices(list(ALTERATIONS), list(ALTERATIONS.values()))[0]
-        self.send_setup(alteration(random, old, aim))
+        self.send_setup(altered)
         for _ in range(random.randrange(1, 7)):
             self.probe(number if random.random() < 0.4 else None)
         if random.random() < 0.8:
             self.send_setup(old)
+
+    def change_kind(self) -> None:
+        """Puts terms in the place of a net or a net in the place of terms, under sheets, and tries them.
+
+        The sheets' states may be terms and markings both.
+        """
+        random = self.random
+        self.settle()
+        one, other = random.sample(range(SHEETS), 2)
+        both = term_of_a_marking(random)
+        marked, free = (sorted(conditions) for conditions in self.sides_of(both))
+        net = full_net(random)[: random.choice((0, 3, 20, 30))]
+        net += [event_between(random, random.sample(marked, 1), random.sample(free, 1)) for _ in range(3)]
+        loops = chain([random_action(random)], Call(0))
+        systems: list[Draws[Any]] = [self.net_of(random.sample(net, len(net))), self.terms_of([loops, Nil()])]
+        if random.random() < 0.5:
+            systems.reverse()
+        for system in systems:
+            self.send_setup(system)
+            self.send(OPEN, one, both if random.random() < 0.7 else system.good_state())
+            self.send(OPEN, other, both if random.random() < 0.3 else system.good_state())
+            for number in (one, other):
+                self.add_possible(number, random.choice((1, 2, 5)))
+                if random.random() < 0.3:
+                    self.send(RELEASE, number)
+            self.send_setup(systems[1 - systems.index(system)])
+            for _ in range(random.choice((2, 4))):
+                self.probe(random.choice((one, other)))
+            self.settle()
+
+    def sides_of(self, marking: bytes) -> tuple[set[int], set[int]]:
+        """The conditions that hold in a marking, and the others."""
+        holding = set(decode_set(marking))
+        return holding, set(range(CONDITIONS)) - holding
 
     def stop_at_depth(self) -> None:
         """A long run, and nets that stop its replay at different steps."""
         random = self.random
         self.settle()
         events = long_ring_net(random)
-        self.send_setup(events)
+        self.send_setup(self.net_of(events))
         number = self.any_sheet()
         self.send(OPEN, number, encode_set(events[0].before))
         length = random.choice((MOST_STEPS, MOST_STEPS, random.randrange(1, MOST_STEPS + 1)))
@@ -621,10 +353,45 @@ class Session:
         if random.random() < 0.5:
             self.send(RELEASE, number)
         for index in (length - 1, random.randrange(length), random.randrange(length)):
-            self.send_setup(random.choice(STOPPING_ALTERATIONS)(random, events, index))
+            self.send_setup(self.net_of(random.choice(STOPPING_ALTERATIONS)(random, events, index)))
             self.probe(number)
             self.probe(number)
-        self.send_setup(events)
+        self.send_setup(self.net_of(events))
+        self.probe(number)
+
+    def stop_terms_at_depth(self) -> None:
+        """A long run through all definitions, and others that stop its replay at different steps."""
+        random = self.random
+        self.settle()
+        actions = [random_action(random) for _ in range(MOST_STEPS)]
+
+        def bodies(changed: int = -1, tail: Any = None) -> list[Any]:
+            """Definitions of two actions each; one changed, or with another term behind it."""
+            shown = [action if place != changed else 0x2A + (action == 0x2A) for place, action in enumerate(actions)]
+            found = []
+            for index in range(MOST_DEFINITIONS):
+                following: Any = Call((index + 1) % MOST_DEFINITIONS)
+                if tail is not None and changed // 2 == index:
+                    following = tail
+                found.append(chain(shown[2 * index : 2 * index + 2], following))
+            return found
+
+        whole = self.terms_of(bodies())
+        self.send_setup(whole)
+        number = self.any_sheet()
+        beside = filler(random.choice((1, 39)))
+        self.send(OPEN, number, Parallel(Call(0), beside).encoded)
+        length = random.choice((MOST_STEPS, MOST_STEPS, random.randrange(1, MOST_STEPS + 1)))
+        for action in actions[:length]:
+            self.send(ADD, number, OnLeft(Act(action)).encoded)
+        if random.random() < 0.5:
+            self.send(RELEASE, number)
+        for place in (length - 1, random.randrange(length), random.randrange(length)):
+            long = filler(random.choice((200, 230, 240))) if random.random() < 0.6 else None
+            self.send_setup(self.terms_of(bodies(place, long)))
+            self.probe(number)
+            self.probe(number)
+        self.send_setup(whole)
         self.probe(number)
 
     def probe(self, number: int | None = None) -> None:
@@ -638,7 +405,7 @@ class Session:
         else:
             number = self.any_sheet()
         if call == ADD:
-            step = self.wrong_step() if self.random.random() < 0.2 else self.some_step()
+            step = self.draws.wrong_step() if self.random.random() < 0.2 else self.some_step(number)
             self.send(call, number, step)
         elif call == SWAP:
             self.send(call, number, self.some_place(number))
@@ -650,10 +417,10 @@ class Session:
             self.send(call, number)
 
     def mend(self) -> None:
-        """Goes back to a net in which some stopped sheet replays."""
+        """Goes back to a system in which some stopped sheet replays."""
         stopped = [n for n in self.homes if self.end(n) is None]
         if stopped:
-            self.send_setup(list(self.homes[self.random.choice(stopped)].events))
+            self.send_setup(self.homes[self.random.choice(stopped)])
 
     def climb(self) -> None:
         """Adds possible steps, sometimes until the sheet is full and one more."""
@@ -671,12 +438,12 @@ class Session:
         else:
             return
         if self.random.random() < 0.4:
-            self.send(OPEN, number, self.good_state())
+            self.send(OPEN, number, self.draws.good_state())
 
     def overfill(self, number: int, step: bytes) -> None:
         """Adds to a full sheet a step that is possible, impossible or none."""
         self.send(ADD, number, step)
-        self.send(ADD, number, self.random.choice((self.some_step(), self.wrong_step())))
+        self.send(ADD, number, self.random.choice((self.some_step(number), self.draws.wrong_step())))
         if self.random.random() < 0.5:
             self.send(WITHDRAW, number)
             self.send(ADD, number, self.possible_step(number) or step)
@@ -685,7 +452,8 @@ class Session:
             self.send(PRINT, number)
 
     def add_some(self) -> None:
-        self.send(ADD, self.sheet_for(ADD), self.some_step())
+        number = self.sheet_for(ADD)
+        self.send(ADD, number, self.some_step(number))
 
     def withdraw(self) -> None:
         """Takes steps away, sometimes beyond the last."""
@@ -695,7 +463,7 @@ class Session:
                 break
 
     def open(self) -> None:
-        self.send(OPEN, self.sheet_for(OPEN), self.good_state())
+        self.send(OPEN, self.sheet_for(OPEN), self.draws.good_state())
 
     def release(self) -> None:
         number = self.sheet_for(RELEASE)
@@ -759,18 +527,25 @@ class Session:
     def add_rival(self, number: int, other: int) -> None:
         """Adds a step that is neither the last step of the other sheet nor independent of it."""
         for last in self.sheet(other).steps[-1:]:
-            rivals = [s for s in self.possible_steps(number) if s != last[0] and not self.net.independent(s, last[0])]
+            rivals = [step for step in self.possible_steps(number) if self.is_rival(step, last)]
             if rivals:
                 self.send(ADD, number, self.random.choice(rivals))
+
+    def is_rival(self, step: bytes, other: bytes) -> bool:
+        """Whether two steps are neither the same nor independent, nor long past each other."""
+        try:
+            return step != other and not self.system.independent(self.system.step(step), self.system.step(other))
+        except Refusal:
+            return False
 
     def part_and_join(self) -> None:
         """Two sheets begin with the same steps in different orders, go on each on its own, and are joined."""
         random = self.random
         one, other = self.open_two()
         if random.random() < 0.7:
-            self.send_setup(random.choice((rings_net, tokens_net, tokens_net, tangled_net))(random))
-        self.send(OPEN, one, self.lively_state())
-        self.add_possible(one, random.choice((0, 1, 2, 3, 4, 5, 6, 8, 12)))
+            self.send_setup(self.system_for_joins())
+        self.send(OPEN, one, self.draws.lively_state())
+        self.add_possible(one, random.choice((0, 0, 0, 1, 2, 3, 4, 5, 6, 8, 12)))
         self.copy(one, other)
         self.shuffle(other, random.choice((0, 1, 3, 6)))
         self.add_possible(one, random.choice((0, 1, 1, 2, 4)))
@@ -784,6 +559,13 @@ class Session:
             self.send(JOIN, other, one)
         self.send(JOIN, one, other)
         self.after_join(one, other)
+
+    def system_for_joins(self) -> Draws[Any]:
+        random = self.random
+        if random.random() < 0.5:
+            families = (chosen_terms, chosen_terms, chosen_terms, nested_terms, looping_terms, crowding_terms)
+            return random_terms(random, random.choice(families))
+        return self.net_of(random.choice((rings_net, tokens_net, tokens_net, tangled_net))(random))
 
     def after_join(self, one: int, other: int) -> None:
         """Looks at what a join has left."""
@@ -815,7 +597,7 @@ class Session:
         rings = [ring_events(random, conditions[i : i + 4]) for i in (0, 4, 8)]
         starts = [ring[0].before for ring in rings]
         rival = event_between(random, conditions[:1], conditions[12:])
-        self.send_setup([event for ring in rings for event in ring] + [rival])
+        self.send_setup(self.net_of([event for ring in rings for event in ring] + [rival]))
         for number, ring, count in ((one, 0, own), (other, 1, total - shared - own)):
             self.send(OPEN, number, encode_set(set().union(*starts)))
             self.walk_rings(number, random.sample([ring] * count + [2] * shared, count + shared))
@@ -828,6 +610,151 @@ class Session:
         """Adds the next event of each of these rings of four."""
         for place, ring in enumerate(rings):
             self.send(ADD, number, 4 * ring + rings[:place].count(ring) % 4)
+
+    def join_terms_near_limit(self) -> None:
+        """The same over three loops side by side, behind choices that the first step makes."""
+        random = self.random
+        one, other = self.open_two()
+        near = range(MOST_STEPS - 1, MOST_STEPS + 2)
+        total = random.choice((*near, random.randrange(MOST_STEPS, 2 * MOST_STEPS + 1)))
+        least, most = max(0, total - MOST_STEPS), min(MOST_STEPS, total)
+        shared = random.choice((0, random.randrange(most - least + 1)))
+        own = random.randrange(least, most - shared + 1)
+        actions = [random_action(random) for _ in range(3)]
+        depth = random.choice((0, 0, 1, 5, 20))
+        self.send_setup(self.terms_of([chain([action], Call(i)) for i, action in enumerate(actions)]))
+        places = ((OnLeft,), (OnRight, OnLeft), (OnRight, OnRight))
+        start = choices(depth, Parallel(Call(0), Parallel(Call(1), Call(2)))).encoded
+        for number, loop, count in ((one, 0, own), (other, 1, total - shared - own)):
+            self.send(OPEN, number, start)
+            for index, side in enumerate(random.sample([loop] * count + [2] * shared, count + shared)):
+                outer = (ChooseRight,) * (depth if index == 0 else 0)
+                self.send(ADD, number, behind((*outer, *places[side]), Act(actions[side])).encoded)
+        if random.random() < 0.3:
+            self.send(ADD, other, behind(places[0], Act(actions[0])).encoded)
+        self.send(JOIN, one, other)
+        self.after_join(one, other)
+
+    def swap_long(self) -> None:
+        """A swap whose answered step is about as long as a step may be, or longer."""
+        random = self.random
+        number = self.any_sheet()
+        self.free(number)
+        goal = random.choice((*range(MOST_STEP_BYTES - 3, MOST_STEP_BYTES + 4), random.randrange(MOST_STEP_BYTES, 120)))
+        # the first step is `first` choices and 3 bytes more, the second `second` and 4 more, the answer both
+        first = random.randrange(max(0, goal - 64), min(60, goal - 5) + 1)
+        second = min(goal - 5 - first, 59)
+        unguarded = random.random() < 0.5
+        if unguarded:
+            sides = Parallel(Prefix(0x01, Nil()), Call(1))
+            self.send_setup(self.terms_of([Sum(sides, Call(0)), Sum(Prefix(0x02, Nil()), Call(1))]))
+            self.send(OPEN, number, Call(0).encoded)
+            one, two = [ChooseRight] * first + [ChooseLeft, OnLeft], [ChooseRight] * second + [ChooseLeft]
+        else:
+            self.send_setup(self.terms_of([]))
+            start = choices(first, Parallel(Prefix(0x01, Nil()), choices(second, Prefix(0x02, Nil()))))
+            self.send(OPEN, number, start.encoded)
+            one, two = [ChooseRight] * first + [OnLeft], [ChooseRight] * second
+        self.send(ADD, number, behind(one, Act(0x01)).encoded)
+        self.send(ADD, number, behind([OnRight, *two], Act(0x02)).encoded)
+        self.send(SWAP, number, 1)
+        if random.random() < 0.5:
+            self.send(SWAP, number, 1)
+        self.send(WITHDRAW, number)
+
+    def grow_on_two_sheets(self) -> None:
+        """Two steps of which each makes a state longer, joined; perhaps behind many others, or before a conflict."""
+        random = self.random
+        one, other = self.open_two()
+        goal = random.choice((*range(MOST_STATE_BYTES - 2, MOST_STATE_BYTES + 4), 300, 400))
+        beside = len(Parallel(Call(2), Call(3)).encoded) + 2
+        half = (goal - beside) // 2
+        long = [Prefix(0x01, filler(half)), Prefix(0x02, filler(goal - beside - half))]
+        loops = [Prefix(0x03, Call(2)), Sum(Prefix(0x04, Call(3)), Prefix(0x05, Call(3)))]
+        self.send_setup(self.terms_of([*long, *loops]))
+        start = Parallel(Parallel(Call(0), Call(1)), Parallel(Call(2), Call(3)))
+        conflict = random.random() < 0.3
+        most = 0 if conflict else random.choice((0, 0, 2, MOST_STEPS - 1))
+        rounds = (OnRight(OnLeft(Act(0x03))), OnRight(OnRight(ChooseLeft(Act(0x04)))))
+        grow = (OnLeft(OnLeft(Act(0x01))), OnLeft(OnRight(Act(0x02))))
+        for number, around, step in zip((one, other), rounds, grow):
+            self.send(OPEN, number, start.encoded)
+            for _ in range(random.randrange(most // 2, most + 1)):
+                self.send(ADD, number, around.encoded)
+            self.send(ADD, number, step.encoded)
+        if conflict:
+            self.send(ADD, one, rounds[1].encoded)
+            self.send(ADD, other, OnRight(OnRight(ChooseRight(Act(0x05)))).encoded)
+        self.send(JOIN, one, other)
+        self.after_join(one, other)
+
+    def swap_to_a_long_state(self) -> None:
+        """The first step ends a long term, the second begins one: exchanged, both are there.
+
+        Perhaps both steps are behind choices, and the second is then too long as well.
+        """
+        random = self.random
+        number = self.any_sheet()
+        self.free(number)
+        goal = random.choice((*range(MOST_STATE_BYTES - 2, MOST_STATE_BYTES + 4), 300, 340))
+        made, own = random.choice(((0, 0), (0, 0), (2, 3), (40, 20), (41, 20), (42, 20), (44, 19)))
+        left = min(goal // 2, MOST_STATE_BYTES - 9 - 2 * made)
+        right = goal - left - 5
+        self.send_setup(self.terms_of([choices(own, Prefix(0x02, filler(right)))]))
+        start = choices(made, Parallel(Sum(filler(left), Prefix(0x03, Nil())), Call(0)))
+        self.send(OPEN, number, start.encoded)
+        self.send(ADD, number, behind([ChooseRight] * made + [OnLeft, ChooseRight], Act(0x03)).encoded)
+        self.send(ADD, number, behind([OnRight] + [ChooseRight] * own, Act(0x02)).encoded)
+        self.send(SWAP, number, 1)
+        self.send(WITHDRAW, number)
+
+    def over_terms(self) -> int:
+        """Opens a sheet in terms, the present ones or new, and returns its number."""
+        number = self.any_sheet()
+        self.free(number)
+        if not isinstance(self.draws, TermDraws) or self.random.random() < 0.5:
+            self.send_setup(random_terms(self.random))
+        self.send(OPEN, number, self.draws.lively_state())
+        return number
+
+    def wrong_steps_over_terms(self) -> None:
+        """Strings that are no proofs, improper proofs, and proofs that do not fit, or only in part."""
+        number = self.over_terms()
+        for _ in range(self.random.choice((4, 8, 12))):
+            wrong = self.random.random() < 0.7
+            self.send(ADD, number, self.draws.wrong_step() if wrong else self.some_step(number))
+
+    def wrong_starts_over_terms(self) -> None:
+        number = self.over_terms()
+        for _ in range(self.random.choice((2, 4, 8))):
+            self.send(OPEN, number, self.draws.wrong_state())
+
+    def deep_step(self) -> None:
+        """A step through a call that comes again and again, about as long as a step may be."""
+        random = self.random
+        number = self.any_sheet()
+        self.free(number)
+        own = chain([0x01], Nil())
+        node, left, right = random.choice(((Sum, ChooseLeft, ChooseRight), (Parallel, OnLeft, OnRight)))
+        depth = random.choice((*range(MOST_STEP_BYTES - 5, MOST_STEP_BYTES), random.randrange(MOST_STEP_BYTES)))
+        count = random.choice((1, 2))
+        self.send_setup(self.terms_of([node(own, Call((number + 1) % count)) for number in range(count)]))
+        self.send(OPEN, number, Call(0).encoded)
+        self.send(ADD, number, behind([right] * depth + [left], Act(0x01)).encoded)
+        turn = random.randrange(depth + 1)
+        wrong = [right] * turn + [OnLeft if right is ChooseRight else ChooseLeft] + [right] * (depth - turn)
+        self.send(ADD, number, behind(wrong, Act(0x01)).encoded[:MOST_STEP_BYTES])
+        self.send(ADD, number, behind([right] * random.randrange(60) + [left], Act(0x02)).encoded)
+        self.send(ADD, number, behind([right] * random.randrange(10) + [left], Act(0x01)).encoded)
+
+    def grow(self) -> None:
+        """Steps that make a state long, and longer than it may be."""
+        number = self.any_sheet()
+        self.free(number)
+        self.send_setup(random_terms(self.random, self.random.choice((growing_terms, crowding_terms))))
+        self.send(OPEN, number, self.draws.lively_state())
+        self.send(ADD, number, OnLeft(Act(0x01)).encoded)
+        self.add_possible(number, self.random.choice((1, 3, 6)))
 
     def join_in_vain(self) -> None:
         """A join of which one sheet, or both, cannot be used."""
@@ -847,7 +774,7 @@ class Session:
 
     def try_blank(self) -> None:
         """Swaps and joins while most sheets are blank."""
-        self.send(OPEN, self.any_sheet(), self.good_state())
+        self.send(OPEN, self.any_sheet(), self.draws.good_state())
         for number in self.random.sample(range(SHEETS), SHEETS):
             self.send(JOIN, self.sheet_for(JOIN), number)
             self.send(JOIN, number, self.any_sheet())
@@ -857,11 +784,11 @@ class Session:
 
     def open_wrong_state(self) -> None:
         number = self.sheet_for(OPEN) if self.random.random() < 0.8 else self.any_sheet()
-        self.send(OPEN, number, self.wrong_state())
+        self.send(OPEN, number, self.draws.wrong_state())
 
     def add_wrong_step(self) -> None:
         number = self.sheet_for(ADD) if self.random.random() < 0.8 else self.any_sheet()
-        self.send(ADD, number, self.wrong_step())
+        self.send(ADD, number, self.draws.wrong_step())
 
     def wrong_standing(self) -> None:
         call = self.random.choice(CALLS[1:])
@@ -876,9 +803,9 @@ class Session:
         """The call for this sheet, with a good or a wrong argument if it takes one."""
         rest = b""
         if call == OPEN:
-            rest = self.random.choice((self.good_state, self.wrong_state))()
+            rest = self.random.choice((self.draws.good_state, self.draws.wrong_state))()
         elif call == ADD:
-            rest = self.random.choice((self.some_step, self.wrong_step))()
+            rest = self.random.choice((self.some_step(number), self.draws.wrong_step()))
         elif call == SWAP:
             rest = bytes([self.random.randrange(MOST_STEPS)])
         elif call == JOIN:
@@ -887,8 +814,8 @@ class Session:
         self.send(call, number, rest, extra)
 
     def bad_setup(self) -> None:
-        events = self.events if self.random.random() < 0.5 else random_net(self.random)
-        self.send(self.random.choice(BAD_SETUPS)(self.random, events))
+        draws = self.draws if self.random.random() < 0.5 else self.any_system()
+        self.send(draws.bad_setup())
 
     def no_call(self) -> None:
         call = self.random.choice((*NO_CALLS, self.random.randrange(256)))
@@ -909,15 +836,17 @@ class Session:
         random = self.random
         heads = (
             bytes([OPEN, self.sheet_for(OPEN)]),
-            bytes([ADD, self.sheet_for(ADD)]) + self.some_step(),
+            bytes([ADD, self.sheet_for(ADD)]) + self.draws.some_step(),
             bytes([RELEASE, self.any_sheet()]),
-            bytes([SETUP, 0x01]),
+            bytes([SETUP, KIND_TERMS]),
+            bytes([SETUP, 0x03]),
             bytes([random.choice(NO_CALLS)]),
-            setup_frame(too_many_events_net(random), masked=random.randbytes(16)),
-            setup_frame(full_net(random), masked=random.randbytes(203)),
-            setup_frame(full_net(random)[:20], random.randbytes(510), random.randbytes(169)),
-            setup_frame(too_many_events_net(random)),
-            setup_frame(full_net(random)),
+            net_setup(too_many_events_net(random), masked=random.randbytes(16)),
+            net_setup(full_net(random), masked=random.randbytes(203)),
+            net_setup(full_net(random)[:20], random.randbytes(510), random.randbytes(169)),
+            net_setup(too_many_events_net(random)),
+            net_setup(full_net(random)),
+            self.terms_of([filler(255)] * 3 + [filler(250)]).setup(),
         )
         head = random.choice(heads)
         self.send(head, random.randbytes(MOST_FRAME_BYTES - len(head)))
@@ -947,16 +876,17 @@ class Session:
         self.send_line(random_digits(self.random, 200_000 + self.random.randrange(2)))
 
 
-def too_many_events_net(random: Random) -> list[Event]:
-    """The most events that a frame can carry; more than are allowed."""
-    return (full_net(random) + full_net(random))[: (MOST_FRAME_BYTES - 5) // EVENT_BYTES]
+def draws_over(random: Random, system: System[Any, Any]) -> Draws[Any]:
+    return NetDraws(random, system) if isinstance(system, Net) else TermDraws(random, system)
 
 
 GOOD_MOVES: dict[Callable[[Session], None], int] = {
-    Session.new_net: 40,
-    Session.alter_net: 60,
-    Session.stop_at_depth: 8,
-    Session.mend: 25,
+    Session.new_system: 50,
+    Session.alter_system: 70,
+    Session.change_kind: 8,
+    Session.stop_at_depth: 6,
+    Session.stop_terms_at_depth: 8,
+    Session.mend: 40,
     Session.climb: 110,
     Session.add_some: 100,
     Session.withdraw: 60,
@@ -968,13 +898,21 @@ GOOD_MOVES: dict[Callable[[Session], None], int] = {
     Session.swap: 60,
     Session.swap_in_vain: 30,
     Session.join: 60,
-    Session.part_and_join: 60,
-    Session.join_near_limit: 10,
+    Session.part_and_join: 120,
+    Session.join_near_limit: 8,
+    Session.join_terms_near_limit: 8,
+    Session.swap_long: 15,
+    Session.grow_on_two_sheets: 15,
+    Session.swap_to_a_long_state: 15,
+    Session.grow: 25,
+    Session.deep_step: 12,
 }
 
 WRONG_MOVES: dict[Callable[[Session], None], int] = {
     Session.open_wrong_state: 40,
     Session.add_wrong_step: 60,
+    Session.wrong_steps_over_terms: 40,
+    Session.wrong_starts_over_terms: 20,
     Session.wrong_standing: 40,
     Session.no_sheet: 30,
     Session.join_in_vain: 30,
@@ -997,7 +935,7 @@ def generate_session(seed: int, frames: int, wrong_moves: bool = True) -> Sessio
     if session.random.random() < 0.5:
         session.try_blank()
     if session.random.random() < 0.5:
-        session.new_net()
+        session.new_system()
     while len(session.lines) < frames:
         session.random.choices(choices, weights)[0](session)
     return session

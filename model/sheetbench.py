@@ -3,212 +3,31 @@
 
 Reads one frame a line in hexadecimal from standard input and writes the
 answers to standard output. Written for plainness, not for speed: a marking is
-a set of conditions, and every call replays its sheet from the start.
+a set of conditions, a term a tree, and every call replays its sheet from the
+start. The systems are in modules of their own; the bench knows of them what
+is in systems.py.
 """
 
 from __future__ import annotations
 
 import re
 import sys
-from abc import ABC, abstractmethod
-from collections.abc import Iterable, Sequence
 from dataclasses import dataclass, field
-from enum import Enum, IntEnum, auto
-from typing import Any, Generic, TypeVar
+from enum import Enum, auto
+from typing import Any, Generic
+
+from nets import EVENT_BYTES, Event, Net
+from systems import E, Layer, Number, Refusal, S, System
+from terms import Misfit, Terms, decode_body
 
 MOST_FRAME_BYTES = 1024
 SHEETS = 4
 MOST_STEPS = 32
 MOST_EVENTS = 48
-CONDITIONS = 64
-SET_BYTES = CONDITIONS // 8
-EVENT_BYTES = 1 + 2 * SET_BYTES
+MOST_DEFINITIONS = 16
+KIND_TERMS = 0x01
 KIND_NET = 0x02
 DONE = b"\x00"
-
-
-# Refusals
-
-
-class Layer(IntEnum):
-    """The part of the program that refuses."""
-
-    FRAME = 1
-    BENCH = 2
-    MASK = 3
-    SYSTEM = 4
-
-
-class Number(IntEnum):
-    """What a refusal is about."""
-
-    FRAME = 1
-    SETUP = 2
-    SHEET = 3
-    STATE = 4
-    STEP = 5
-    IMPOSSIBLE = 6
-    FULL = 9
-    ABSENT = 10
-    DEPENDENT = 11
-    STARTS = 13
-    CONFLICT = 14
-    LENGTH = 15
-    REPLAY = 16
-
-
-@dataclass(eq=False)
-class Refusal(Exception):
-    """A call that is turned down; it has changed nothing."""
-
-    number: Number
-    layer: Layer
-    place: int
-    beneath: Refusal | None = None
-
-    def encode(self) -> bytes:
-        own = bytes([self.number, self.layer]) + self.place.to_bytes(2, "big")
-        return own + (self.beneath.encode() if self.beneath else b"")
-
-
-# Systems
-
-S = TypeVar("S")
-E = TypeVar("E")
-
-
-class System(ABC, Generic[S, E]):
-    """A transition system whose states (S) and steps (E) are written as bytes.
-
-    Two steps are equal exactly where their bytes are.
-    """
-
-    @abstractmethod
-    def state(self, data: bytes) -> S:
-        """The state written as these bytes; refuses with STATE."""
-
-    @abstractmethod
-    def step(self, data: bytes) -> E:
-        """The step written as these bytes; refuses with STEP."""
-
-    @abstractmethod
-    def label(self, step: E) -> int:
-        """The action byte of the step."""
-
-    @abstractmethod
-    def next(self, state: S, step: E) -> S:
-        """The state after the step; refuses with IMPOSSIBLE."""
-
-    @abstractmethod
-    def encode_state(self, state: S) -> bytes:
-        """The bytes of the state."""
-
-    @abstractmethod
-    def encode_step(self, step: E) -> bytes:
-        """The bytes of the step."""
-
-    @abstractmethod
-    def independent(self, one: E, other: E) -> bool:
-        """Whether the two can be exchanged; no step is independent of itself."""
-
-    @abstractmethod
-    def residual(self, step: E, after: E) -> E:
-        """What is left of a step after one that is independent of it."""
-
-    @abstractmethod
-    def back(self, first: E, second: E) -> E | None:
-        """The step, independent of the first, of which the second is left after it; None where there is none."""
-
-
-Marking = frozenset[int]
-
-
-def decode_set(data: bytes) -> Marking:
-    """The conditions whose bits are set in a big-endian number."""
-    number = int.from_bytes(data, "big")
-    return frozenset(c for c in range(CONDITIONS) if number >> c & 1)
-
-
-def encode_set(conditions: Iterable[int]) -> bytes:
-    return sum(1 << c for c in conditions).to_bytes(SET_BYTES, "big")
-
-
-def is_action(byte: int) -> bool:
-    """Silent, a name or a co-name."""
-    return byte == 0x00 or 0x01 <= byte <= 0x3F or 0x41 <= byte <= 0x7F
-
-
-@dataclass(frozen=True)
-class Event:
-    action: int
-    before: Marking
-    after: Marking
-
-    @staticmethod
-    def decode(data: bytes) -> Event:
-        before, after = data[1 : 1 + SET_BYTES], data[1 + SET_BYTES :]
-        return Event(data[0], decode_set(before), decode_set(after))
-
-    def encode(self) -> bytes:
-        return bytes([self.action]) + encode_set(self.before) + encode_set(self.after)
-
-    def is_sound(self) -> bool:
-        return (
-            is_action(self.action)
-            and bool(self.before)
-            and bool(self.after)
-            and self.before.isdisjoint(self.after)
-        )
-
-    def is_possible(self, marking: Marking) -> bool:
-        return self.before <= marking and self.after.isdisjoint(marking)
-
-    @property
-    def conditions(self) -> Marking:
-        return self.before | self.after
-
-
-class Net(System[Marking, int]):
-    """A condition/event net; a step is the number of its event."""
-
-    def __init__(self, events: Sequence[Event] = ()) -> None:
-        self.events = tuple(events)
-
-    def state(self, data: bytes) -> Marking:
-        if len(data) != SET_BYTES:
-            raise Refusal(Number.STATE, Layer.SYSTEM, min(len(data), SET_BYTES))
-        return decode_set(data)
-
-    def step(self, data: bytes) -> int:
-        if not data or data[0] >= len(self.events):
-            raise Refusal(Number.STEP, Layer.SYSTEM, 0)
-        if len(data) > 1:
-            raise Refusal(Number.STEP, Layer.SYSTEM, 1)
-        return data[0]
-
-    def label(self, step: int) -> int:
-        return self.events[step].action
-
-    def next(self, state: Marking, step: int) -> Marking:
-        event = self.events[step]
-        if not event.is_possible(state):
-            raise Refusal(Number.IMPOSSIBLE, Layer.SYSTEM, 0)
-        return (state - event.before) | event.after
-
-    def encode_state(self, state: Marking) -> bytes:
-        return encode_set(state)
-
-    def encode_step(self, step: int) -> bytes:
-        return bytes([step])
-
-    def independent(self, one: int, other: int) -> bool:
-        return self.events[one].conditions.isdisjoint(self.events[other].conditions)
-
-    def residual(self, step: int, after: int) -> int:
-        return step
-
-    def back(self, first: int, second: int) -> int | None:
-        return second if self.independent(first, second) else None
 
 
 # Joining
@@ -288,7 +107,7 @@ class Bench(Generic[S, E]):
             run = Run([self.system.state(sheet.start)], [])
             for place, data in enumerate(sheet.steps, start=1):
                 step = self.system.step(data)
-                run.states.append(self.system.next(run.end, step))
+                run.states.append(self.system.follow(run.end, step))
                 run.steps.append(step)
         except Refusal as beneath:
             raise Refusal(Number.REPLAY, Layer.BENCH, place, beneath) from None
@@ -307,7 +126,7 @@ class Bench(Generic[S, E]):
         run = self.replay(sheet)
         if len(sheet.steps) >= MOST_STEPS:
             raise Refusal(Number.FULL, Layer.BENCH, MOST_STEPS)
-        end = self.system.next(run.end, self.system.step(data))
+        end = self.system.follow(run.end, self.system.step(data))
         sheet.steps.append(data)
         return self.system.encode_state(end)
 
@@ -321,8 +140,9 @@ class Bench(Generic[S, E]):
         moved = self.system.back(first, second)
         if moved is None:
             raise Refusal(Number.DEPENDENT, Layer.BENCH, place)
-        exchanged = [moved, self.system.residual(first, moved)]
-        sheet.steps[place - 1 : place + 1] = [self.system.encode_step(step) for step in exchanged]
+        exchanged = [self.system.answer_step(step) for step in (moved, self.system.residual(first, moved))]
+        self.system.follow(run.states[place - 1], moved)
+        sheet.steps[place - 1 : place + 1] = exchanged
 
     def withdraw(self, number: int) -> bytes:
         """Takes the last step away and returns the end state that is left."""
@@ -346,6 +166,9 @@ class Bench(Generic[S, E]):
         if length > MOST_STEPS:
             raise Refusal(Number.LENGTH, Layer.BENCH, length)
         shared = len(run.steps) + len(other_run.steps) - length
+        end = run.end
+        for step in survivors:
+            end = self.system.follow(end, step)
         sheet.steps = sheet.steps + [self.system.encode_step(step) for step in survivors]
         return length, shared
 
@@ -405,15 +228,19 @@ def decode_line(line: bytes) -> bytes:
 
 
 @dataclass
-class Table:
-    """Rows of equal width behind a count byte; place is that of the count."""
+class Row:
+    """Some bytes of a frame; place is that of the first."""
 
     place: int
-    width: int
-    rows: list[bytes]
+    data: bytes
 
-    def row_place(self, index: int) -> int:
-        return self.place + 1 + self.width * index
+
+@dataclass
+class Table:
+    """Rows behind a count byte; place is that of the count."""
+
+    place: int
+    rows: list[Row]
 
 
 class Reader:
@@ -436,10 +263,15 @@ class Reader:
     def rest(self) -> bytes:
         return self.take(len(self.frame) - self.place)
 
-    def table(self, width: int) -> Table:
+    def row(self, width: int | None) -> Row:
+        """A row of this width; where none is given, the row begins with a byte that says it."""
+        width = self.byte() if width is None else width
+        return Row(self.place, self.take(width))
+
+    def table(self, width: int | None = None) -> Table:
         place = self.place
         count = self.byte()
-        return Table(place, width, [self.take(width) for _ in range(count)])
+        return Table(place, [self.row(width) for _ in range(count)])
 
     def finish(self) -> None:
         if self.place < len(self.frame):
@@ -452,33 +284,49 @@ class Reader:
         return taken
 
 
-def read_setup(reader: Reader) -> Net:
+def read_setup(reader: Reader) -> System[Any, Any]:
     """The system of a setup frame whose first byte has been read.
 
     The kind comes first, then the layout of the whole frame, then the rules
     in the order of the frame.
     """
     kind_place = reader.place
-    if reader.byte() != KIND_NET:
+    kind = reader.byte()
+    if kind not in (KIND_TERMS, KIND_NET):
         raise setup_refusal(kind_place)
     pairs = reader.table(2)
     masked = reader.table(1)
-    events = reader.table(EVENT_BYTES)
+    parts = reader.table() if kind == KIND_TERMS else reader.table(EVENT_BYTES)
     reader.finish()
     if pairs.rows:
         raise setup_refusal(pairs.place)
     if masked.rows:
         raise setup_refusal(masked.place)
-    return read_net(events)
+    return read_terms(parts) if kind == KIND_TERMS else read_net(parts)
+
+
+def read_terms(table: Table) -> Terms:
+    count = len(table.rows)
+    if count > MOST_DEFINITIONS:
+        raise setup_refusal(table.place)
+    bodies = []
+    for row in table.rows:
+        try:
+            bodies.append(decode_body(row.data, count))
+        except Misfit as misfit:
+            raise setup_refusal(row.place + misfit.place) from None
+    return Terms(bodies)
 
 
 def read_net(table: Table) -> Net:
     if len(table.rows) > MOST_EVENTS:
         raise setup_refusal(table.place)
-    events = [Event.decode(row) for row in table.rows]
-    for index, event in enumerate(events):
+    events = []
+    for row in table.rows:
+        event = Event.decode(row.data)
         if not event.is_sound():
-            raise setup_refusal(table.row_place(index))
+            raise setup_refusal(row.place)
+        events.append(event)
     return Net(events)
 
 
@@ -486,7 +334,7 @@ class Server:
     """Answers frames, one line each."""
 
     def __init__(self) -> None:
-        self.bench: Bench[Any, Any] = Bench(Net())
+        self.bench: Bench[Any, Any] = Bench(Terms())
 
     def answer(self, line: bytes) -> bytes:
         """The answer to a line without its line end; all its lines have theirs."""

@@ -6,29 +6,34 @@ from collections import Counter, defaultdict
 from collections.abc import Iterator
 from dataclasses import dataclass, field, replace
 from os.path import commonprefix
+from typing import Any
 
-from generate import CALLS, PRINT, SWAP
-from sheetbench import MOST_STEPS, SHEETS, Bench, Marking, Net, Number, Refusal, Server, Standing, decode_line
+from drawing import CALLS, JOIN, PRINT, SWAP
+from nets import Net
+from sheetbench import MOST_STEPS, SHEETS, Bench, Server, Standing, decode_line
+from systems import Number, Refusal
+from tally_terms import TERM_HAPPENINGS, names_over_terms
 
 # How many different places each refusal must have occurred at.
 LEAST_PLACES = {
     Number.FRAME: 20,
-    Number.SETUP: 6,
+    Number.SETUP: 20,
     Number.SHEET: 2,
-    Number.STATE: 3,
-    Number.STEP: 2,
-    Number.IMPOSSIBLE: 1,
+    Number.STATE: 20,
+    Number.STEP: 20,
+    Number.IMPOSSIBLE: 20,
+    Number.LONG_STATE: 20,
     Number.FULL: 1,
     Number.ABSENT: 20,
     Number.DEPENDENT: 10,
+    Number.LONG_STEP: 10,
     Number.STARTS: 1,
     Number.CONFLICT: 10,
     Number.LENGTH: 10,
     Number.REPLAY: 10,
 }
-# What must have stopped replays. A start that was once opened is a state in
-# every net, so STATE cannot be among them while nets are the only systems.
-STOPPING = (Number.STEP, Number.IMPOSSIBLE)
+# What must have stopped replays.
+STOPPING = (Number.STATE, Number.STEP, Number.IMPOSSIBLE, Number.LONG_STATE)
 # What must have happened in swaps and joins, and how often.
 HAPPENINGS = (
     "swap that lacks bytes",
@@ -71,17 +76,18 @@ HAPPENINGS = (
     "join that shares some",
     "join that shares all",
     "join that shares in another order",
+    *TERM_HAPPENINGS,
 )
 LEAST_TIMES = 5
 
 
 @dataclass
 class Happening:
-    """A swap or a join, its answer, and the bench before it."""
+    """A call, its answer, and the bench before it."""
 
     frame: bytes
     answer: bytes
-    bench: Bench[Marking, int]
+    bench: Bench[Any, Any]
 
     @property
     def refused(self) -> int:
@@ -92,6 +98,12 @@ class Happening:
         return int.from_bytes(self.answer[2:4], "big")
 
     def names(self) -> Iterator[str]:
+        if self.frame[0] in (SWAP, JOIN):
+            yield from self.two_step_names()
+        yield from names_over_terms(self.bench, self.frame, self.answer)
+
+    def two_step_names(self) -> Iterator[str]:
+        """What happens in a swap or a join, over any system."""
         call = "swap" if self.frame[0] == SWAP else "join"
         if len(self.frame) < 3:
             yield f"{call} that lacks bytes"
@@ -121,6 +133,8 @@ class Happening:
             return "swap on a stopped sheet"
         if self.refused == Number.DEPENDENT:
             return "swap of dependent steps"
+        if self.refused in (Number.LONG_STEP, Number.LONG_STATE):
+            return "swap that comes to something too long"
         beyond = place - len(self.bench.sheets[number].steps)
         if self.refused and place:
             return "swap past the last step" if beyond > 0 else "swap of the last step"
@@ -139,6 +153,8 @@ class Happening:
         elif self.refused == Number.LENGTH:
             more = f"{self.place}" if self.place == MOST_STEPS + 1 else "still more"
             yield f"join refused for {more} steps"
+        elif self.refused == Number.LONG_STATE:
+            yield "join that comes to a state too long"
         else:
             yield "join of different starts"
 
@@ -157,9 +173,8 @@ class Happening:
     def conflict_names(self, number: int, other: int) -> Iterator[str]:
         one, two = (self.bench.replay(self.bench.sheets[n]).steps for n in (number, other))
         step = two[self.place - 1]
-        assert isinstance(self.bench.system, Net)
-        events = self.bench.system.events
-        if any(events[met] == events[step] for met in one if met != step):
+        system = self.bench.system
+        if isinstance(system, Net) and any(system.events[met] == system.events[step] for met in one if met != step):
             yield "join with a conflict of equal events"
         if len(one) + len(self.bench.carry_all(two[: self.place - 1], one)) > MOST_STEPS:
             yield "join with a conflict behind too many steps"
@@ -184,9 +199,7 @@ class Happening:
 
 
 def answer_with_names(server: Server, line: bytes) -> tuple[bytes, list[str]]:
-    """The model's answer to a line, and what happens there if it is a swap or a join."""
-    if line[:2].upper() not in (b"B2", b"B4"):
-        return server.answer(line), []
+    """The model's answer to a line, and what happens there."""
     before = Bench(server.bench.system)
     before.sheets = [replace(sheet, steps=list(sheet.steps)) for sheet in server.bench.sheets]
     answer = server.answer(line)
@@ -194,7 +207,8 @@ def answer_with_names(server: Server, line: bytes) -> tuple[bytes, list[str]]:
         frame = decode_line(line)
     except Refusal:
         return answer, []
-    return answer, list(Happening(frame, bytes.fromhex(answer.decode("ascii")), before).names())
+    first = bytes.fromhex(answer.split(b"\n", 1)[0].decode("ascii"))
+    return answer, list(Happening(frame, first, before).names()) if frame and len(frame) > 1 else []
 
 
 @dataclass

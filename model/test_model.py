@@ -6,27 +6,20 @@ from __future__ import annotations
 import subprocess
 import sys
 import unittest
+from collections.abc import Callable
 from pathlib import Path
 from random import Random
 from typing import Any
 
-from bruteforce import Search
+from bruteforce import Search, possible_proofs
 from generate import generate
-from sheetbench import (
-    Bench,
-    Event,
-    Layer,
-    Marking,
-    Net,
-    Number,
-    Refusal,
-    Server,
-    System,
-    encode_set,
-    split_lines,
-)
+from nets import Event, Marking, Net, encode_set
+from sheetbench import Bench, Server, split_lines
+from systems import Layer, Number, Refusal, System
+from test_terms import random_terms
 
 PROGRAM = Path(__file__).resolve().parent / "sheetbench.py"
+SESSIONS = Path(__file__).resolve().parent.parent / "sessions"
 
 ZERO = "0000000000000000"
 C0 = "0000000000000001"  # condition 0 holds
@@ -41,6 +34,7 @@ BACK = "41" + C1 + C0
 TO_AND_BACK = "A002000002" + TO + BACK
 ONLY_TO = "A002000001" + TO
 SWAPPED = "A002000002" + BACK + TO
+NO_EVENTS = "A002000000"
 OPEN = "B000" + C0
 
 # Each case: why, the lines before (their answers do not matter), the line, its
@@ -67,19 +61,19 @@ FRAME_CASES: list[Case] = [
     ("missing numbers of a join", [], "B4", "01010001"),
     ("missing second sheet of a join", [], "B4FF", "01010002"),
     ("extra byte of a join", [], "B4000100", "01010003"),
-    ("1,024 bytes are allowed", [], "B000" + 1022 * "00", "04040008"),
+    ("1,024 bytes are allowed", [NO_EVENTS], "B000" + 1022 * "00", "04040008"),
     ("1,025 bytes are not", [], "B000" + 1023 * "00", "01010400"),
     ("half a byte too long", [], "B000" + 1022 * "00" + "0", "01010400"),
     ("a bad last digit in time", [], "B000" + 2043 * "0" + "G00", "010103FF"),
     ("a bad digit too late to be seen", [], 2048 * "0" + "0G", "01010400"),
-    ("lower case is read, capitals are written", ["b000" + C63], "b300", "0A020000"),
+    ("lower case is read, capitals are written", [NO_EVENTS, "b000" + C63], "b300", "0A020000"),
 ]
 
 SETUP_CASES: list[Case] = [
     ("no events", [], "A002000000", "00"),
     ("two events", [], TO_AND_BACK, "00"),
     ("the call byte alone", [], "A0", "01010001"),
-    ("wrong kind, though bytes are missing", [], "A001", "02010001"),
+    ("wrong kind, though bytes are missing", [], "A003", "02010001"),
     ("wrong kind, though bytes are extra", [], "A00300000000", "02010001"),
     ("missing count of pairs", [], "A002", "01010002"),
     ("missing bytes precede pairs", [], "A00201AA", "01010004"),
@@ -103,12 +97,12 @@ SETUP_CASES: list[Case] = [
 ]
 
 SHEET_CASES: list[Case] = [
-    ("open", [], OPEN, "00"),
+    ("open", [NO_EVENTS], OPEN, "00"),
     ("no such sheet", [], "B004" + C0, "03020001"),
     ("no such sheet precedes a wrong state", [], "B0FF", "03020001"),
-    ("no state: no bytes", [], "B000", "04040000"),
-    ("no state: seven bytes", [], "B000" + 7 * "00", "04040007"),
-    ("no state: nine bytes", [], "B000" + 9 * "00", "04040008"),
+    ("no state: no bytes", [NO_EVENTS], "B000", "04040000"),
+    ("no state: seven bytes", [NO_EVENTS], "B000" + 7 * "00", "04040007"),
+    ("no state: nine bytes", [NO_EVENTS], "B000" + 9 * "00", "04040008"),
     ("add to a blank sheet", [TO_AND_BACK], "B10000", "03020001"),
     ("add", [TO_AND_BACK, OPEN], "B10000", "00" + C1),
     ("add where the other conditions stay", [TO_AND_BACK, "B0008000000000000001"], "B10000", "008000000000000002"),
@@ -118,7 +112,7 @@ SHEET_CASES: list[Case] = [
     ("no step: two events only", [TO_AND_BACK, OPEN], "B10002", "05040000"),
     ("no step: more than an event", [TO_AND_BACK, OPEN], "B1000000", "05040001"),
     ("no step: more than no event", [TO_AND_BACK, OPEN], "B1000200", "05040000"),
-    ("no events before a setup", [OPEN], "B10000", "05040000"),
+    ("no events", [NO_EVENTS, OPEN], "B10000", "05040000"),
     ("32 steps", [TO_AND_BACK, OPEN] + 15 * ["B10000", "B10001"] + ["B10000"], "B10001", "00" + C0),
     ("33 steps", [TO_AND_BACK, OPEN] + 16 * ["B10000", "B10001"], "B10000", "09020020"),
     ("a full sheet precedes a wrong step", [TO_AND_BACK, OPEN] + 16 * ["B10000", "B10001"], "B100", "09020020"),
@@ -128,14 +122,14 @@ SHEET_CASES: list[Case] = [
     ("a refused open leaves the steps", [TO_AND_BACK, OPEN, "B10000", "B000"], "B300", "00" + C0),
     ("a refused add leaves the steps", [TO_AND_BACK, OPEN, "B10000", "B10000"], "B300", "00" + C0),
     ("release a blank sheet", [], "B500", "03020001"),
-    ("release", [OPEN], "B500", "00"),
-    ("release twice", [OPEN, "B500"], "B500", "03020001"),
-    ("open a released sheet", [OPEN, "B500"], OPEN, "03020001"),
+    ("release", [NO_EVENTS, OPEN], "B500", "00"),
+    ("release twice", [NO_EVENTS, OPEN, "B500"], "B500", "03020001"),
+    ("open a released sheet", [NO_EVENTS, OPEN, "B500"], OPEN, "03020001"),
     ("add to a released sheet", [TO_AND_BACK, OPEN, "B500"], "B10000", "03020001"),
-    ("reopen an open sheet", [OPEN], "B600", "03020001"),
+    ("reopen an open sheet", [NO_EVENTS, OPEN], "B600", "03020001"),
     ("reopen and go on", [TO_AND_BACK, OPEN, "B500", "B600"], "B10000", "00" + C1),
-    ("print an open sheet", [OPEN], "B700", "03020001"),
-    ("print no steps", ["B003" + C63, "B503"], "B703", "0000" + C63 + " " + C63),
+    ("print an open sheet", [NO_EVENTS, OPEN], "B700", "03020001"),
+    ("print no steps", [NO_EVENTS, "B003" + C63, "B503"], "B703", "0000" + C63 + " " + C63),
     (
         "print two steps",
         [TO_AND_BACK, OPEN, "B10000", "B10001", "B500"],
@@ -407,30 +401,23 @@ def small_net(random: Random) -> tuple[Net, Marking]:
 
 
 class Trial:
-    """Two runs from one start in a random small system, on sheets 0 and 1 of a bench."""
+    """Two runs from one start in a small system, on sheets 0 and 1 of a bench."""
 
-    def __init__(self, seed: int, marked: bool) -> None:
-        self.random = Random(seed)
-        net, marking = small_net(self.random)
-        self.system: System[Any, Any] = MarkedNet(net) if marked else net
-        self.start: Any = (True, marking) if marked else marking
-        steps: list[Any] = list(range(len(net.events)))
-        self.all_steps = [(mark, step) for mark in (False, True) for step in steps] if marked else steps
-        self.search: Search[Any, Any] = Search(self.system, self.possible)
-        self.one = self.random_run((), self.random.choice((1, 2, 3, 4, 4)))
-        order = self.random.choice(sorted(self.search.orders(self.one)))
-        kept = order[: self.random.choice((0, 1, 2, 3))]
-        self.other = self.random_run(kept, self.random.randrange(5 - len(kept)))
+    def __init__(
+        self, random: Random, system: System[Any, Any], start: Any, possible: Callable[[Any], list[Any]]
+    ) -> None:
+        self.random = random
+        self.system = system
+        self.start = start
+        self.possible = possible
+        self.search: Search[Any, Any] = Search(system, possible)
+        self.one = self.random_run((), random.choice((1, 2, 3, 4, 4)))
+        order = random.choice(sorted(self.search.orders(self.one), key=self.encoded))
+        kept = order[: random.choice((0, 1, 2, 3))]
+        self.other = self.random_run(kept, random.randrange(5 - len(kept)))
 
-    def possible(self, state: Any) -> list[Any]:
-        found = []
-        for step in self.all_steps:
-            try:
-                self.system.next(state, step)
-            except Refusal:
-                continue
-            found.append(step)
-        return found
+    def encoded(self, steps: tuple[Any, ...]) -> list[bytes]:
+        return [self.system.encode_step(step) for step in steps]
 
     def random_run(self, steps: tuple[Any, ...], more: int) -> tuple[Any, ...]:
         for _ in range(more):
@@ -451,13 +438,47 @@ class Trial:
         return tuple(bench.replay(bench.sheets[number]).steps)
 
 
+def one_of(system: System[Any, Any], steps: list[Any]) -> Callable[[Any], list[Any]]:
+    """Which of these steps are possible in a state."""
+
+    def possible(state: Any) -> list[Any]:
+        found = []
+        for step in steps:
+            try:
+                system.next(state, step)
+            except Refusal:
+                continue
+            found.append(step)
+        return found
+
+    return possible
+
+
+def net_trial(random: Random) -> Trial:
+    net, marking = small_net(random)
+    return Trial(random, net, marking, one_of(net, list(range(len(net.events)))))
+
+
+def marked_trial(random: Random) -> Trial:
+    net, marking = small_net(random)
+    steps = [(mark, step) for mark in (False, True) for step in range(len(net.events))]
+    marked = MarkedNet(net)
+    return Trial(random, marked, (True, marking), one_of(marked, steps))
+
+
+def terms_trial(random: Random) -> Trial:
+    terms, term = random_terms(random, random.choice((8, 10, 12)))
+    return Trial(random, terms, term, lambda state: possible_proofs(terms, state))
+
+
 class SearchTest(unittest.TestCase):
     """Joins and swaps against what a search finds."""
 
-    TRIALS = 400
+    # Each kind with the number of its trials.
+    KINDS = {net_trial: 400, marked_trial: 400, terms_trial: 200}
 
-    def trials(self, marked: bool) -> list[Trial]:
-        return [Trial(seed, marked) for seed in range(self.TRIALS)]
+    def trials(self, kind: Callable[[Random], Trial]) -> list[Trial]:
+        return [kind(Random(seed)) for seed in range(self.KINDS[kind])]
 
     def joined(self, trial: Trial, number: int, other: int) -> tuple[Any, ...] | int:
         """The steps after a join, or the place of the conflict."""
@@ -492,16 +513,16 @@ class SearchTest(unittest.TestCase):
         return None
 
     def test_joins(self) -> None:
-        for marked in (False, True):
+        for kind in self.KINDS:
             conflicts = set()
-            for seed, trial in enumerate(self.trials(marked)):
-                with self.subTest(marked=marked, seed=seed):
+            for seed, trial in enumerate(self.trials(kind)):
+                with self.subTest(kind=kind.__name__, seed=seed):
                     conflicts.add(self.check_join(trial))
             self.assertEqual(conflicts, {None, 1, 2, 3, 4})
 
     def test_joins_with_itself(self) -> None:
-        for marked in (False, True):
-            for trial in self.trials(marked):
+        for kind in self.KINDS:
+            for trial in self.trials(kind):
                 bench = trial.bench()
                 length = len(trial.one)
                 self.assertEqual(bench.join(0, 0), (length, length))
@@ -526,11 +547,11 @@ class SearchTest(unittest.TestCase):
         return True
 
     def test_swaps(self) -> None:
-        for marked in (False, True):
+        for kind in self.KINDS:
             answers = set()
-            for seed, trial in enumerate(self.trials(marked)):
+            for seed, trial in enumerate(self.trials(kind)):
                 for place in range(1, len(trial.one)):
-                    with self.subTest(marked=marked, seed=seed, place=place):
+                    with self.subTest(kind=kind.__name__, seed=seed, place=place):
                         answers.add(self.check_swap(trial, place))
             self.assertEqual(answers, {False, True})
 
@@ -577,6 +598,16 @@ class ProgramTest(unittest.TestCase):
             with self.subTest(why):
                 result = subprocess.run([sys.executable, PROGRAM], input=data, stdout=subprocess.PIPE, check=True)
                 self.assertEqual(result.stdout, output)
+
+
+    def test_stored_sessions(self) -> None:
+        inputs = sorted(SESSIONS.glob("*.in"))
+        self.assertTrue(inputs)
+        for path in inputs:
+            with self.subTest(path.name):
+                server = Server()
+                found = b"".join(server.answer(line) for line in split_lines(path.read_bytes()))
+                self.assertEqual(found, path.with_suffix(".out").read_bytes())
 
 
 class GeneratorTest(unittest.TestCase):

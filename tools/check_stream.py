@@ -36,7 +36,7 @@ def value(pid: int, file: str, key: str) -> int:
 
 def answers_at_once(program: str) -> bool:
     with start(program) as run:
-        run.stdin.write(b"B0000000000000000001\n")
+        run.stdin.write(b"B00000\n")
         first = reply(run, 10)
         run.stdin.write(b"B3")
         early = reply(run, 0.2)
@@ -48,7 +48,7 @@ def answers_at_once(program: str) -> bool:
 
 def few_calls(program: str) -> bool:
     with start(program) as run:
-        lines = b"B0000000000000000001\n" * 1000
+        lines = b"B00000\n" * 1000
         for _ in range(FRAMES // 1000):
             run.stdin.write(lines)
             got = b""
