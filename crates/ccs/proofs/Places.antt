@@ -7,7 +7,7 @@ use Rattle.std.specs.Result.{result_err}
 use Rattle.steps.specs.Meaning.{Str}
 use Rattle.ccs.specs.Syntax.{Term, Proof}
 use Rattle.ccs.specs.Spelling.{term_bytes, proof_bytes, sound_term, sound_proof}
-use Rattle.ccs.specs.Reading.{Due, Next, read, term_byte, proof_byte, only, read_proof}
+use Rattle.ccs.specs.Reading.{Due, Next, read, term_byte, proof_byte, only, read_term, read_proof}
 use Rattle.ccs.specs.Reading.Due.{node}
 use Rattle.ccs.specs.Beginning.{IsTerm, IsProof, LongestBeginning}
 use Rattle.ccs.specs.First.{FirstIf}
@@ -90,8 +90,12 @@ module _ (n : ℕ) where
   begins_term : (s : Str) → Begins (term_byte n) node 1 s (read (term_byte n) node 1 s)
   begins_term s = begins (term_byte n) (terms.Alive n) (terms.alive_on n) (terms.ending n) node 1 s tt
 
+  -- of a string that is no term within a limit, the longest beginning within it is told
+  pub term_place : (l : ℕ) (s : Str) (p : ℕ) → past l s (result_err (read_term n s)) ≡ Some p → (IsTerm n s × (length s ≤ l) → ⊥) × LongestBeginning (IsTerm n) (take l s) p
+  term_place l = place (IsTerm n) (term_byte n) term_read is_term begins_term l
+
 pub state_places : StatePlaces
-state_places ds s p e = let n = length ds in (place (IsTerm n) (term_byte n) (term_read n) (is_term n) (begins_term n) 256 s p e).1
+state_places ds s p e = (term_place (length ds) 256 s p e).1
 
 -- of proofs
 proof_read : (s : Str) → IsProof s → (t : Proof) × read proof_byte node 1 s ≡ Ok (t ∷ [])

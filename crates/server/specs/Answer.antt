@@ -4,10 +4,7 @@ use Rattle.byte_strings.specs.Buffer.{Str, over}
 use Rattle.hexadecimal.specs.Hex.{read_told}
 use Rattle.hexadecimal.specs.Line.{line}
 use Rattle.steps.specs.Meaning.{Transitions, Independence}
-use Rattle.nets.specs.declared.event.Event.{Event}
-use Rattle.nets.specs.declared.net.Net.{Net}
-use Rattle.nets.specs.Contents.{events_of}
-use Rattle.nets.specs.System.{net_transitions, net_independence}
+use Rattle.systems.specs.Design.{Design, design_of, transitions_of, independence_of}
 use Rattle.bench.specs.Page.{Page}
 use Rattle.bench.specs.Calls.{Outcome, answered, opened, added, withdrawn, released, reopened}
 use Rattle.bench.specs.Swap.{swapped}
@@ -22,19 +19,15 @@ use Rattle.frame.specs.Frames.FrameView.{setup, open_sheet, add, swap, withdraw,
 use Rattle.frame.specs.Reading.{frame_told}
 use Rattle.server.specs.declared.server.Server.{Server}
 use Rattle.server.specs.Text.{refusal_line, call_text, print_text, text_limit}
-use Rattle.server.specs.Setup.{net_told}
+use Rattle.server.specs.DesignSetup.{design_told}
 
--- the events of the net, and the four sheets
+-- the design, and the four sheets
 pub record Model : Type 0 where
-  pub events : List Event
+  pub design : Design
   pub pages : List Page
 
 abbrev pub model_of : Server → Model
-model_of s = record { events = events_of s.net; pages = pages_of s.bench }
-
-abbrev pub net_view : Result Net FrameFault → Result (List Event) FrameFault
-net_view (Ok n) = Ok (events_of n)
-net_view (Err f) = Err f
+model_of s = record { design = design_of s.system; pages = pages_of s.bench }
 
 -- an answer's text, and what is kept afterwards
 pub record Reply : Type 0 where
@@ -44,31 +37,31 @@ pub record Reply : Type 0 where
 abbrev pub refused : Model → FrameFault → Reply
 refused m f = record { text = refusal_line (frame_refusal f); model = m }
 
--- a setup replaces the net and leaves the sheets
-abbrev pub setup_reply : Model → Result (List Event) FrameFault → Reply
-setup_reply m (Ok es) = record { text = line (0 ∷ []); model = record { events = es; pages = m.pages } }
+-- a setup replaces the design and leaves the sheets
+abbrev pub setup_reply : Model → Result Design FrameFault → Reply
+setup_reply m (Ok d) = record { text = line (0 ∷ []); model = record { design = d; pages = m.pages } }
 setup_reply m (Err f) = refused m f
 
 -- a call on a sheet
 abbrev pub sheet_reply : Model → ℕ → Outcome → Reply
-sheet_reply m s o = record { text = call_text (answered o); model = record { events = m.events; pages = pages_after o m.pages s } }
+sheet_reply m s o = record { text = call_text (answered o); model = record { design = m.design; pages = pages_after o m.pages s } }
 
 abbrev pub print_reply : Model → Outcome → Reply
 print_reply m o = record { text = print_text (answered o); model = m }
 
 abbrev pub system_of : Model → Transitions
-system_of m = net_transitions m.events
+system_of m = transitions_of m.design
 
-abbrev pub independence_of : Model → Independence
-independence_of m = net_independence m.events
+abbrev pub reworking_of : Model → Independence
+reworking_of m = independence_of m.design
 
 abbrev pub frame_reply : Model → FrameView → Reply
-frame_reply m (setup pairs names events) = setup_reply m (net_told events)
+frame_reply m (setup pairs names system) = setup_reply m (design_told system)
 frame_reply m (open_sheet s state) = sheet_reply m s (on_sheet m.pages s (opened (system_of m) state))
 frame_reply m (add s step) = sheet_reply m s (on_sheet m.pages s (added (system_of m) step 256))
-frame_reply m (swap s place) = sheet_reply m s (on_sheet m.pages s (swapped (system_of m) (independence_of m) place))
+frame_reply m (swap s place) = sheet_reply m s (on_sheet m.pages s (swapped (system_of m) (reworking_of m) place))
 frame_reply m (withdraw s) = sheet_reply m s (on_sheet m.pages s (withdrawn (system_of m) 256))
-frame_reply m (join s e) = sheet_reply m s (on_sheet m.pages s (joined (system_of m) (independence_of m) (page_at m.pages e)))
+frame_reply m (join s e) = sheet_reply m s (on_sheet m.pages s (joined (system_of m) (reworking_of m) (page_at m.pages e)))
 frame_reply m (release s) = sheet_reply m s (on_sheet m.pages s (released (system_of m)))
 frame_reply m (reopen s) = sheet_reply m s (on_sheet m.pages s (reopened (system_of m)))
 frame_reply m (print s) = print_reply m (on_sheet m.pages s (printed (system_of m) text_limit))

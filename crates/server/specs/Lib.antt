@@ -1,4 +1,6 @@
 pub mod Text
 pub mod Setup
+pub mod TermsSetup
+pub mod DesignSetup
 pub mod Answer
 pub mod Session

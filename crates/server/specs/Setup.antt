@@ -3,6 +3,8 @@ use Rattle.std.specs.Prelude.{◌≡◌, ℕ, zero, suc, ◌+◌, ◌<◌, ◌�
 use Rattle.byte_strings.specs.Buffer.{Str}
 use Rattle.nets.specs.declared.event.Event.{Event}
 use Rattle.nets.specs.declared.event.EventFault.{EventFault}
+use Rattle.nets.specs.declared.net.Net.{Net}
+use Rattle.nets.specs.Contents.{events_of}
 use Rattle.nets.specs.Events.{add_fault, event_fault}
 use Rattle.frame.specs.declared.fault.FrameFault.{FrameFault}
 use Rattle.frame.specs.declared.fault.FrameFault.TheVariants.{BadSetup}
@@ -16,6 +18,11 @@ built bytes es i (suc n) = elim (event_told bytes i) [ None ↦ Ok es | Some e �
 -- the net of a setup with these event bytes; else the place of the first event that breaks a rule
 abbrev pub net_told : Str → Result (List Event) FrameFault
 net_told bytes = built bytes [] 0 48
+
+-- what was made, by its events
+abbrev pub net_view : Result Net FrameFault → Result (List Event) FrameFault
+net_view (Ok n) = Ok (events_of n)
+net_view (Err f) = Err f
 
 -- Events spelled by the bytes of a setup from the first on, each of them sound.
 abbrev pub Spelled : Str → List Event → Type 0

@@ -2,7 +2,9 @@
 ghost use Rattle.std.specs.Prelude.{◌≡◌, ◌≤◌, [], length, replicate, IfSome};
 ghost use Rattle.bench.specs.Page.{blank_page};
 ghost use Rattle.server.specs.Text.{Answers};
+ghost use Rattle.systems.specs.Design.Design.{of_terms};
 ghost use Rattle.server.specs.Setup.{SetupsGiveNets};
+ghost use Rattle.server.specs.TermsSetup.{SetupsGiveTerms};
 ghost use Rattle.server.specs.Answer.{model_of, line_reply, reply_length, reply_buffer, reply_model};
 
 use crate::fault::Fault;
@@ -12,15 +14,16 @@ use crate::text::TEXT_LIMIT;
 use bench::bench::Bench;
 use frame::fault::FrameFault;
 use frame::frame::{FRAME_LIMIT, Frame};
-use nets::net::Net;
+use systems::terms_or_net::TermsOrNet;
+use terms::terms::Terms;
 
 impl Server {
-    // A net with no events, and four blank sheets.
+    // Terms with no definitions, and four blank sheets.
     pub fn new() -> Server
-        ensures { model_of result ≡ record { events = []; pages = replicate 4 blank_page } }
+        ensures { model_of result ≡ record { design = of_terms []; pages = replicate 4 blank_page } }
     {
         Server {
-            net: Net::new(),
+            system: TermsOrNet::Terms(Terms::new(0)),
             bench: Bench::new(),
         }
     }
@@ -29,13 +32,14 @@ impl Server {
     // None, and nothing is done, where `out` has no room for the longest text.
     // It stays a call, so that the loop over the bytes of input is short.
     #[inline(never)]
-    #[tactic(auto, using(crate::proofs::Setups::setups_give_nets))]
+    #[tactic(auto, using(crate::proofs::Setups::setups_give_nets, crate::proofs::TermsSetups::setups_give_terms))]
     pub fn answer(&mut self, line: &[u8], out: &mut [u8]) -> Option<usize>
         ensures answer { result ≡ reply_length (line_reply (model_of self.old) line.now) (length out.old) }
         ensures buffer { out.new ≡ reply_buffer (line_reply (model_of self.old) line.now) out.old }
         ensures model { model_of self.new ≡ reply_model (line_reply (model_of self.old) line.now) (length out.old) (model_of self.old) }
         ensures bound { IfSome result (λ n. n ≤ 5222) }
-        ensures setups { SetupsGiveNets }
+        ensures nets { SetupsGiveNets }
+        ensures terms { SetupsGiveTerms }
     {
         let out = out.first_chunk_mut::<TEXT_LIMIT>()?;
         // A match and no `unwrap_or_else`: of what that closure leaves in `out` the proof did not close.

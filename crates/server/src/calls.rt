@@ -1,5 +1,6 @@
-// The calls of frames, each on the net and the bench, with its answer as text.
+// The calls of frames, each on the step system and the bench, with its answer as text.
 ghost use Rattle.std.specs.Prelude.{◌≡◌};
+ghost use Rattle.frame.specs.Frames.{WithinRules};
 ghost use Rattle.frame.specs.Reading.{frame_view};
 ghost use Rattle.server.specs.Text.{Answers};
 ghost use Rattle.server.specs.Answer.{model_of, frame_reply};
@@ -17,6 +18,7 @@ impl Server {
         frame: Frame<'_>,
         out: &mut [u8; TEXT_LIMIT],
     ) -> Result<usize, Fault>
+        requires { WithinRules (frame_view frame) }
         ensures answer { Answers (frame_reply (model_of self.old) (frame_view frame.entry)).text result out.old out.new }
         ensures model { model_of self.new ≡ (frame_reply (model_of self.old) (frame_view frame.entry)).model }
     {
@@ -25,34 +27,34 @@ impl Server {
         // A match and no table of functions: each frame has data of its own, and the frames are these.
         let n = match frame {
             Frame::Setup(setup) => {
-                self.net = setup::build(&setup)?;
+                self.system = setup::build(&setup.system)?;
                 0
             }
             Frame::Open { sheet, state } => {
-                self.bench.open_sheet(&self.net, sheet, state)?;
+                self.bench.open_sheet(&self.system, sheet, state)?;
                 0
             }
-            Frame::Add { sheet, step } => self.bench.add(&self.net, sheet, step, &mut end)?,
+            Frame::Add { sheet, step } => self.bench.add(&self.system, sheet, step, &mut end)?,
             Frame::Swap { sheet, place } => {
-                self.bench.swap(&self.net, sheet, place)?;
+                self.bench.swap(&self.system, sheet, place)?;
                 0
             }
-            Frame::Withdraw { sheet } => self.bench.withdraw(&self.net, sheet, &mut end)?,
+            Frame::Withdraw { sheet } => self.bench.withdraw(&self.system, sheet, &mut end)?,
             Frame::Join { sheet, other } => {
-                let (len, shared) = self.bench.join(&self.net, sheet, other)?;
+                let (len, shared) = self.bench.join(&self.system, sheet, other)?;
                 end[0] = len;
                 end[1] = shared;
                 2
             }
             Frame::Release { sheet } => {
-                self.bench.release(&self.net, sheet)?;
+                self.bench.release(&self.system, sheet)?;
                 0
             }
             Frame::Reopen { sheet } => {
-                self.bench.reopen(&self.net, sheet)?;
+                self.bench.reopen(&self.system, sheet)?;
                 0
             }
-            Frame::Print { sheet } => return Ok(self.bench.print(&self.net, sheet, out)?),
+            Frame::Print { sheet } => return Ok(self.bench.print(&self.system, sheet, out)?),
         };
         Ok(text::accept(&end[0..n], out))
     }

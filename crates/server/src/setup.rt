@@ -1,20 +1,24 @@
-// The net of a setup.
+// The step system of a setup.
 ghost use Rattle.std.specs.Prelude.{◌≡◌};
-ghost use Rattle.server.specs.Setup.{net_told};
-ghost use Rattle.server.specs.Answer.{net_view};
+ghost use Rattle.frame.specs.Frames.{Few};
+ghost use Rattle.frame.specs.Reading.{system_view};
+ghost use Rattle.server.specs.DesignSetup.{design_told, design_view};
 
 use frame::fault::FrameFault;
-use frame::setup::Setup;
-use nets::net::Net;
+use frame::setup::System;
+use systems::terms_or_net::TermsOrNet;
 
-// Makes the net, or refuses the first event that breaks a rule.
-pub(crate) fn build(setup: &Setup<'_>) -> Result<Net, FrameFault>
-    ensures { net_view result ≡ net_told setup.now.events.now }
+mod net;
+mod terms;
+
+// Makes the terms or the net, or refuses the first body or event that breaks a rule.
+pub(crate) fn build(system: &System<'_>) -> Result<TermsOrNet, FrameFault>
+    requires { Few (system_view system.now) }
+    ensures { design_view result ≡ design_told (system_view system.now) }
 {
-    let mut net = Net::new();
-    for (i, event) in (0..48u8).zip(setup.events()) {
-        let place = Setup::event_place(i);
-        net.add(event).map_err(|_| FrameFault::BadSetup(place))?;
-    }
-    Ok(net)
+    let made = match system {
+        System::Terms(definitions) => TermsOrNet::Terms(terms::build(definitions)?),
+        System::Net(events) => TermsOrNet::Net(net::build(events)?),
+    };
+    Ok(made)
 }

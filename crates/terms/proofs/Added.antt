@@ -14,7 +14,7 @@ pub held_is : (h s : Str) (c : Bool) → Some h ≡ cond c (Some s) None → h �
 held_is h s true e = cc e
 held_is h s false e = absurd (cc e)
 
-push_sound : (n : ℕ) (ss : List Str) (s : Str) → sound_bodies_of n ss ≡ true → None ≡ body_fault n s → sound_bodies_of n (ss ++ s ∷ []) ≡ true
+pub push_sound : (n : ℕ) (ss : List Str) (s : Str) → sound_bodies_of n ss ≡ true → None ≡ body_fault n s → sound_bodies_of n (ss ++ s ∷ []) ≡ true
 unfolding sound_bodies_of
 push_sound n [] s e h = both_true (ap (λ o. not (is_some o)) (sym h)) refl
 push_sound n (r ∷ ss) s e h = let c = both_of (not (is_some (body_fault n r))) (sound_bodies_of n ss) e in both_true c.0 (push_sound n ss s c.1 h)

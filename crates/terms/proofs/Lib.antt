@@ -2,3 +2,4 @@ pub mod Follows
 pub mod Unfolding
 pub mod Added
 pub mod Answered
+pub mod Bodies

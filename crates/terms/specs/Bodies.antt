@@ -1,5 +1,5 @@
 -- The bodies of definitions, as strings and as terms. Assumes nothing.
-use Rattle.std.specs.Prelude.{ℕ, ◌-◌, Bool, true, cond, ◌&&◌, not, List, [], ◌∷◌, ◌++◌, length, map, replicate, is_some, Some, None, Ok, Err, Option, Result, nat_eq, nat_lt}
+use Rattle.std.specs.Prelude.{ℕ, ◌-◌, ◌≤◌, Bool, true, cond, ◌&&◌, not, List, [], ◌∷◌, ◌++◌, length, map, replicate, is_some, Some, None, Ok, Err, Option, Result, nat_eq, nat_lt}
 use Rattle.std.specs.Result.{result_err}
 use Rattle.steps.specs.Meaning.{Str}
 use Rattle.ccs.specs.Syntax.{Term}
@@ -39,3 +39,13 @@ add_told n bodies s = elim (add_fault n bodies s) [ None ↦ Ok tt | Some f ↦ 
 
 abbrev pub bodies_after : ℕ → List Str → Str → List Str
 bodies_after n bodies s = elim (add_fault n bodies s) [ None ↦ bodies ++ s ∷ [] | Some f ↦ bodies ]
+
+-- the place that a fault tells
+abbrev pub place_of : BodyFault → ℕ
+place_of Full = 0
+place_of (NoBody k) = k
+
+-- it is one that a body may have
+abbrev pub WithinBody : Result (Unit {0}) BodyFault → Type 0
+WithinBody (Ok x) = Unit {0}
+WithinBody (Err f) = place_of f ≤ body_limit

@@ -1,4 +1,5 @@
 pub mod Bodies
+pub mod BodyLaws
 pub mod Contents
 pub mod Sound
 pub mod Follow

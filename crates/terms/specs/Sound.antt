@@ -19,9 +19,9 @@ use Rattle.terms.specs.Bodies.{body_limit, body_fault, sound_bodies_of, body_in,
 pub length_terms : (n : ℕ) (ss : List Str) → length ss ≤ n → length (terms_in n ss) ≡ n
 length_terms n ss few = length-append (map (body_in n) ss) (replicate (n - length ss) nil) ∙ omega (arith, length-map ss (body_in n), length-replicate (n - length ss) nil, few)
 
--- the term that a body spells, and that it is no call
-abbrev pub IsBody : ℕ → Str → Type 0
-IsBody n s = (p : Term) × (read_term n s ≡ Ok p) × (plain p ≡ true)
+-- the term that a string spells, and that it is no call
+abbrev pub Spells : ℕ → Str → Type 0
+Spells n s = (p : Term) × (read_term n s ≡ Ok p) × (plain p ≡ true)
 
 begins_call : (p : Term) (b : ℕ) (s : Str) → term_bytes p ≡ b ∷ s → nat_eq b 0x05 ≡ false → plain p ≡ true
 unfolding term_bytes
@@ -32,16 +32,16 @@ begins_call (sum p q) b s e f = refl
 begins_call (restrict m p) b s e f = refl
 begins_call (call d) b s e f = let five : 0x05 ≡ b = cc e in absurd (cc (sym f ∙ eq-eqb b 0x05 (sym five)))
 
-pub is_body : (n : ℕ) (s : Str) → not (is_some (body_fault n s)) ≡ true → IsBody n s
+pub is_body : (n : ℕ) (s : Str) → not (is_some (body_fault n s)) ≡ true → Spells n s
 unfolding read
 is_body n [] e = absurd (cc e)
 is_body n (b ∷ s) e = by_byte (nat_eq b 0x05) refl e
   where
-    by_reading : nat_eq b 0x05 ≡ false → (r : Result Term ℕ) → read_term n (b ∷ s) ≡ r → not (is_some (past body_limit (b ∷ s) (result_err r))) ≡ true → IsBody n (b ∷ s)
+    by_reading : nat_eq b 0x05 ≡ false → (r : Result Term ℕ) → read_term n (b ∷ s) ≡ r → not (is_some (past body_limit (b ∷ s) (result_err r))) ≡ true → Spells n (b ∷ s)
     by_reading f (Ok p) g h = (p, g, begins_call p b s (read_is_term n (b ∷ s) p g).0 f)
     by_reading f (Err k) g h = absurd (cc h)
 
-    by_byte : (c : Bool) → nat_eq b 0x05 ≡ c → not (is_some (cond c (Some 0) (past body_limit (b ∷ s) (result_err (read_term n (b ∷ s)))))) ≡ true → IsBody n (b ∷ s)
+    by_byte : (c : Bool) → nat_eq b 0x05 ≡ c → not (is_some (cond c (Some 0) (past body_limit (b ∷ s) (result_err (read_term n (b ∷ s)))))) ≡ true → Spells n (b ∷ s)
     by_byte true f h = absurd (cc h)
     by_byte false f h = by_reading f (read_term n (b ∷ s)) refl h
 

@@ -5,7 +5,7 @@ ghost use Rattle.terms.specs.Bodies.{sound_bodies_of};
 use byte_strings::held::Held;
 use byte_strings::list::FixedList;
 
-mod contents;
+pub mod contents;
 
 // The most definitions.
 pub const DEFINITION_LIMIT: u8 = 16;

@@ -2,6 +2,7 @@
 ghost use Rattle.std.specs.Prelude.{◌≡◌, ◌≤◌, not, [], length, take, replicate, IfSome, ◌==◌};
 ghost use Rattle.byte_strings.specs.Buffer.{Str};
 ghost use Rattle.bench.specs.Page.{blank_page};
+ghost use Rattle.systems.specs.Design.Design.{of_terms};
 ghost use Rattle.server.specs.Answer.{model_of};
 ghost use Rattle.server.specs.Session.{line_limit, taken_length, taken_buffer, taken_model, taken_line};
 
@@ -12,7 +13,7 @@ use byte_strings::held::Held;
 impl Session {
     // A new server, and an empty line.
     pub fn new() -> Session
-        ensures model { model_of result.server ≡ record { events = []; pages = replicate 4 blank_page } }
+        ensures model { model_of result.server ≡ record { design = of_terms []; pages = replicate 4 blank_page } }
         ensures line { result.line ≡ [] }
     {
         Session {

@@ -1,11 +1,12 @@
 // What definitions hold: making them, giving one its body, and the node that a term moves by.
-ghost use Rattle.std.specs.Prelude.{◌≡◌, false, [], min, is_ok};
+ghost use Rattle.std.specs.Prelude.{◌≡◌, ◌≤◌, [], min, IfSome};
 ghost use Rattle.std.specs.List.{slice_get};
 ghost use Rattle.ccs.specs.Reading.{read_term};
 ghost use Rattle.nodes.specs.Lent.{part_view};
 ghost use Rattle.nodes.specs.Nodes.{TermNode, term_view};
 ghost use Rattle.terms.specs.Answers.{state_checked};
-ghost use Rattle.terms.specs.Bodies.{body_fault, add_told, bodies_after};
+ghost use Rattle.terms.specs.Bodies.{body_fault, add_told, bodies_after, body_limit, place_of, WithinBody};
+ghost use Rattle.terms.specs.BodyLaws.{BodiesTold};
 ghost use Rattle.terms.specs.Contents.{terms_of};
 ghost use Rattle.terms.specs.Follow.{unfolded};
 
@@ -25,6 +26,18 @@ pub enum BodyFault {
     NoBody(u16),
 }
 
+impl BodyFault {
+    // The place in the body; the first, where no body is called for.
+    pub fn place(self) -> u16
+        ensures { result ≡ place_of self }
+    {
+        match self {
+            BodyFault::Full => 0,
+            BodyFault::NoBody(place) => place,
+        }
+    }
+}
+
 impl Terms {
     // Terms over so many definitions, sixteen at most, whose bodies are still to come.
     pub fn new(count: u8) -> Terms
@@ -38,10 +51,13 @@ impl Terms {
     }
 
     // Gives the next definition its body, or refuses it and stays as it is.
+    #[tactic(auto, using(crate::proofs::Bodies::bodies_told))]
     pub fn add(&mut self, body: &[u8]) -> Result<(), BodyFault>
         ensures answer { result ≡ add_told self.old.count self.old.bodies body.now }
         ensures count { self.new.count ≡ self.old.count }
         ensures bodies { self.new.bodies ≡ bodies_after self.old.count self.old.bodies body.now }
+        ensures place { WithinBody result }
+        ensures told { BodiesTold }
     {
         if self.bodies.items().len() >= usize::from(self.count) {
             return Err(BodyFault::Full);
@@ -93,7 +109,8 @@ impl Terms {
 
 // The first byte that fits no body, of a string that is to be one: a body is a term and no call, and has at most 255 bytes.
 fn body_fault(count: u8, body: &[u8]) -> Option<u16>
-    ensures { result ≡ body_fault count body.now }
+    ensures place { result ≡ body_fault count body.now }
+    ensures within { IfSome result (λ k. k ≤ body_limit) }
 {
     if let [0x05, ..] = body {
         return Some(0);

@@ -3,7 +3,7 @@ use Rattle.std.proofs.lemmas.Grind.{common_steps}
 use Rattle.frame.specs.Reading.{frame_view}
 use Rattle.hexadecimal.specs.Line.{line}
 use Rattle.server.specs.Text.{call_text}
-use Rattle.server.specs.Answer.{model_of, system_of, independence_of, frame_reply}
+use Rattle.server.specs.Answer.{model_of, system_of, reworking_of, frame_reply}
 use Rattle.bench.proofs.Silent.{swap_is_silent}
 use Rattle.server.proofs.Replies.{sent_back, step_sent_back, print_sent_back, answer_told, written}
 use Rattle.server.proofs.server.Server.call.Goals as goal
@@ -40,7 +40,7 @@ returns-clause-answer c =
       | in-Setup+in_ok-self-in-Setup w ↦ let h = w.in_ok-self-in-Setup.ensures in rw (w.in-Setup.is, w.n-is) (search rules)
       | in-Open+in_ok-open_sheet-in-Open w ↦ rw (w.in-Open.is, w.n-is) (search rules)
       | in-Add+in_ok-n-in-Add w ↦ rw (w.in-Add.is, w.n-is, w.end-is) (answer_told _ _ _ _ w.in_ok-n-in-Add.ensures.answer w.in_ok-n-in-Add.ensures.buffer)
-      | in-Swap+in_ok-swap-in-Swap w ↦ rw (w.in-Swap.is, w.n-is) (ap call_text (swap_is_silent (system_of m) (independence_of m) m.pages w.in-Swap.sheet w.in-Swap.place w.in_ok-swap-in-Swap.ensures.answer))
+      | in-Swap+in_ok-swap-in-Swap w ↦ rw (w.in-Swap.is, w.n-is) (ap call_text (swap_is_silent (system_of m) (reworking_of m) m.pages w.in-Swap.sheet w.in-Swap.place w.in_ok-swap-in-Swap.ensures.answer))
       | in-Join+in_ok-len-in-Join w ↦ rw (w.in-Join.is, w.n-is, w.end-is) (ap call_text (sym w.in_ok-len-in-Join.ensures.answer))
       | in-Withdraw+in_ok-n-in-Withdraw w ↦ rw (w.in-Withdraw.is, w.n-is, w.end-is) (answer_told _ _ _ _ w.in_ok-n-in-Withdraw.ensures.answer w.in_ok-n-in-Withdraw.ensures.buffer)
       | in-Release+in_ok-release-in-Release w ↦ rw (w.in-Release.is, w.n-is) (grind (arith, common_steps))

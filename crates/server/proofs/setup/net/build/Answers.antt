@@ -5,9 +5,9 @@ use Rattle.frame.specs.declared.fault.FrameFault.TheVariants.{BadSetup}
 use Rattle.frame.specs.Events.{event_place}
 use Rattle.nets.specs.Contents.{events_of}
 use Rattle.server.specs.Setup.{built}
-use Rattle.server.specs.Answer.{net_view}
+use Rattle.server.specs.Setup.{net_view}
 use Rattle.server.proofs.Building.{built_none, built_all, built_bad, built_more}
-use Rattle.server.proofs.setup.build.Goals as goal
+use Rattle.server.proofs.setup.net.build.Goals as goal
 
 pub returns-in_err-map_err : goal.returns-in_err-map_err
 returns-in_err-map_err c =
@@ -16,15 +16,15 @@ returns-in_err-map_err c =
     let i = (zip_first c.loop-i.i-iterator).start in
     let lt : i < 48 = omega (arith, step.0.1.0, inv.end) in
     let failed : is_err c.add.result ≡ true = search rules in
-    let told : net_view c.from_residual.result ≡ Err (BadSetup c.event_place-place.result) = search rules in
-    told ∙ ap (λ n. Err (BadSetup n)) (c.event_place-place.ensures ∙ ap event_place step.0.1.1)
-    ∙ built_bad c.args.setup.now.events.now (zip_second c.loop-i.i-iterator).rest.now (events_of c.loop-i.net) i _ inv.so_far inv.left c.in-Some.event lt step.1.0 c.add.result c.add.ensures.answer failed
+    let told : net_view c.from_residual.result ≡ Err (BadSetup c.place-place.result) = search rules in
+    told ∙ ap (λ n. Err (BadSetup n)) (c.place-place.ensures ∙ ap event_place step.0.1.1)
+    ∙ built_bad c.args.events.now.bytes.now (zip_second c.loop-i.i-iterator).rest.now (events_of c.loop-i.net) i _ inv.so_far inv.left c.in-Some.event lt step.1.0 c.add.result c.add.ensures.answer failed
 
 pub loop-i-preserved : goal.loop-i-preserved
 loop-i-preserved c =
     let inv = c.loop-i.invariant in
     let step = c.in-Some.ensures.steps in
-    let bytes = c.args.setup.now.events.now in
+    let bytes = c.args.events.now.bytes.now in
     let i = (zip_first c.loop-i.i-iterator).start in
     let lt : i < 48 = omega (arith, step.0.1.0, inv.end) in
     let next : (zip_first c.next.new.self).start ≡ i + 1 = step.0.1.2 in
@@ -42,7 +42,7 @@ loop-i-preserved c =
 pub returns : goal.returns
 returns c =
     let inv = c.loop-i.invariant in
-    let bytes = c.args.setup.now.events.now in
+    let bytes = c.args.events.now.bytes.now in
     let rest = (zip_second c.loop-i.i-iterator).rest.now in
     let i = (zip_first c.loop-i.i-iterator).start in
     elim c.in-None.ensures.steps [

@@ -1,0 +1,65 @@
+-- Terms built one body at a time. Assumes nothing.
+use Rattle.std.proofs.Common.{◌≡◌, ℕ, ◌+◌, ◌<◌, nat_lt, List, [], ◌∷◌, ◌++◌, length, Some, None, Ok, Err, Option, Result, sym, refl, ap, ◌∙◌}
+use Rattle.std.proofs.lemmas.Bool.{cond-true, lt-ltb}
+use Rattle.byte_strings.specs.Buffer.{Str}
+use Rattle.terms.specs.declared.terms.contents.BodyFault.{BodyFault}
+use Rattle.terms.specs.declared.terms.contents.BodyFault.TheVariants.{NoBody}
+use Rattle.terms.specs.Bodies.{body_fault, add_fault, add_told, bodies_after, place_of}
+use Rattle.frame.specs.declared.fault.FrameFault.{FrameFault}
+use Rattle.frame.specs.declared.fault.FrameFault.TheVariants.{BadSetup}
+use Rattle.frame.specs.Frames.{body_place}
+use Rattle.server.specs.TermsSetup.{given}
+
+-- what the bodies behind those that are there give
+module _ (n : ℕ) (front left : List Str) (r : Result (List Str) FrameFault) (inv : given n front left ≡ r) where
+  pub given_all : left ≡ [] → Ok front ≡ r
+  unfolding given
+  given_all e = sym (ap (given n front) e) ∙ inv
+
+  module _ (b : Str) (back : List Str) (e : left ≡ b ∷ back) where
+    with_fault : Option ℕ → Result (List Str) FrameFault
+    with_fault o = elim o [ None ↦ given n (front ++ b ∷ []) back | Some k ↦ Err (BadSetup (body_place front + k)) ]
+
+    by_fault : with_fault (body_fault n b) ≡ r
+    unfolding given with_fault
+    by_fault = sym (ap (given n front) e) ∙ inv
+
+    pub given_on : body_fault n b ≡ None → given n (front ++ b ∷ []) back ≡ r
+    unfolding with_fault
+    given_on f = sym (ap with_fault f) ∙ by_fault
+
+    pub given_bad : (k : ℕ) → body_fault n b ≡ Some k → Err (BadSetup (body_place front + k)) ≡ r
+    unfolding with_fault
+    given_bad k f = sym (ap with_fault f) ∙ by_fault
+
+-- what giving a body tells, where one is called for
+module _ (n : ℕ) (ss : List Str) (s : Str) (room : length ss < n) where
+  fault_of : Option ℕ → Option BodyFault
+  fault_of o = elim o [ None ↦ None | Some k ↦ Some (NoBody k) ]
+
+  by_body : add_fault n ss s ≡ fault_of (body_fault n s)
+  unfolding fault_of
+  by_body = cond-true (nat_lt (length ss) n) _ _ (lt-ltb (length ss) n room)
+
+  told_by : Option BodyFault → Result (Unit {0}) BodyFault
+  told_by o = elim o [ None ↦ Ok tt | Some f ↦ Err f ]
+
+  pub taken_fault : Ok tt ≡ add_told n ss s → body_fault n s ≡ None
+  unfolding fault_of told_by
+  taken_fault e = go (body_fault n s) (e ∙ ap told_by by_body)
+    where
+      go : (o : Option ℕ) → Ok tt ≡ told_by (fault_of o) → o ≡ None
+      go None e = refl
+      go (Some k) e = absurd (cc e)
+
+  pub taken_after : Ok tt ≡ add_told n ss s → bodies_after n ss s ≡ ss ++ s ∷ []
+  unfolding fault_of told_by
+  taken_after e = ap (λ o. elim o as (λ _. List Str) [ None ↦ ss ++ s ∷ [] | Some f ↦ ss ]) (by_body ∙ ap fault_of (taken_fault e))
+
+  pub refused_fault : (f : BodyFault) → Err f ≡ add_told n ss s → body_fault n s ≡ Some (place_of f)
+  unfolding fault_of told_by
+  refused_fault f e = go (body_fault n s) (e ∙ ap told_by by_body)
+    where
+      go : (o : Option ℕ) → Err f ≡ told_by (fault_of o) → o ≡ Some (place_of f)
+      go None e = absurd (cc e)
+      go (Some k) e = let same : f ≡ NoBody k = cc e in ap (λ f. Some (place_of f)) (sym same)

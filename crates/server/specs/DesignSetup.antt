@@ -1,0 +1,18 @@
+-- The design that a setup makes: terms or a net. Assumes nothing.
+use Rattle.std.specs.Prelude.{Ok, Err, Result}
+use Rattle.systems.specs.declared.terms_or_net.TermsOrNet.{TermsOrNet}
+use Rattle.systems.specs.Design.{Design, design_of}
+use Rattle.systems.specs.Design.Design.{of_terms, of_net}
+use Rattle.frame.specs.declared.fault.FrameFault.{FrameFault}
+use Rattle.frame.specs.Frames.{SystemView}
+use Rattle.frame.specs.Frames.SystemView.{terms, net}
+use Rattle.server.specs.Setup.{net_told}
+use Rattle.server.specs.TermsSetup.{terms_told}
+
+abbrev pub design_told : SystemView → Result Design FrameFault
+design_told (terms bodies) = elim (terms_told bodies) [ Ok ds ↦ Ok (of_terms ds) | Err f ↦ Err f ]
+design_told (net events) = elim (net_told events) [ Ok es ↦ Ok (of_net es) | Err f ↦ Err f ]
+
+abbrev pub design_view : Result TermsOrNet FrameFault → Result Design FrameFault
+design_view (Ok s) = Ok (design_of s)
+design_view (Err f) = Err f

@@ -1,0 +1,19 @@
+// The net of a setup.
+ghost use Rattle.std.specs.Prelude.{◌≡◌};
+ghost use Rattle.server.specs.Setup.{net_told, net_view};
+
+use frame::event::Events;
+use frame::fault::FrameFault;
+use nets::net::Net;
+
+// Makes the net, or refuses the first event that breaks a rule.
+pub(crate) fn build(events: &Events<'_>) -> Result<Net, FrameFault>
+    ensures { net_view result ≡ net_told events.now.bytes.now }
+{
+    let mut net = Net::new();
+    for (i, event) in (0..48u8).zip(events.iter()) {
+        let place = Events::place(i);
+        net.add(event).map_err(|_| FrameFault::BadSetup(place))?;
+    }
+    Ok(net)
+}
