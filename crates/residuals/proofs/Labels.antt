@@ -1,29 +1,41 @@
--- What a node tells of the label. Assumes nothing.
-use Rattle.std.proofs.Common.{◌≡◌, ℕ, Some, Result, refl, ap}
+-- What a string shows that begins with a proof. Assumes nothing.
+use Rattle.std.proofs.Common.{◌≡◌, ℕ, true, false, is_none, [], ◌++◌, Ok, Err, Result, sym, refl, ap, ◌∙◌, append-nil}
+use Rattle.std.specs.Result.{result_err}
+use Rattle.steps.specs.Meaning.{Str}
 use Rattle.steps.specs.declared.label.Label.{Label}
 use Rattle.ccs.specs.Syntax.{Proof}
+use Rattle.ccs.specs.Syntax.Proof.{act, on_left, on_right, both, choose_left, choose_right, under}
 use Rattle.ccs.specs.Label.{label}
+use Rattle.ccs.specs.Spelling.{proof_bytes}
 use Rattle.ccs.specs.Reading.{read_proof}
 use Rattle.ccs.specs.System.{label_of}
-use Rattle.nodes.specs.Nodes.{NodeOfProof, ProofNode}
-use Rattle.nodes.specs.Nodes.NodeOfProof.{Act, Left, Right, Both, ChooseLeft, ChooseRight, Under}
-use Rattle.nodes.specs.Nodes.ProofNode.{act_node, left_node, right_node, both_node, choose_left_node, choose_right_node, under_node}
+use Rattle.ccs.proofs.ProofReading.{read_is_proof}
+use Rattle.residuals.specs.Steps.{shown_behind, shown}
 
-abbrev pub shows : NodeOfProof → Label
-shows (Act a) = record { action = a }
-shows (Left s) = label_of (read_proof s)
-shows (Right s) = label_of (read_proof s)
-shows (Both s r) = record { action = 0 }
-shows (ChooseLeft s) = label_of (read_proof s)
-shows (ChooseRight s) = label_of (read_proof s)
-shows (Under m s) = label_of (read_proof s)
+shows : (t : Proof) (s : Str) → shown (proof_bytes t ++ s) ≡ label t
+unfolding proof_bytes shown_behind label
+shows (act a) s = refl
+shows (on_left t) s = shows t s
+shows (on_right t) s = shows t s
+shows (both t u) s = refl
+shows (choose_left t) s = shows t s
+shows (choose_right t) s = shows t s
+shows (under n t) s = shows t s
 
-pub label_shows : {n : NodeOfProof} {r : Result Proof ℕ} → ProofNode (Some n) r → shows n ≡ label_of r
-unfolding label
-label_shows act_node = refl
-label_shows (left_node e) = ap label_of e
-label_shows (right_node e) = ap label_of e
-label_shows (both_node e f) = refl
-label_shows (choose_left_node e) = ap label_of e
-label_shows (choose_right_node e) = ap label_of e
-label_shows (under_node e) = ap label_of e
+-- so of a string that is a proof
+pub shown_is : (s : Str) (t : Proof) → read_proof s ≡ Ok t → shown s ≡ label t
+shown_is s t e = ap shown (sym (append-nil (proof_bytes t) ∙ (read_is_proof s t e).0)) ∙ shows t []
+
+pub labelled : (s : Str) → is_none (result_err (read_proof s)) ≡ true → record { action = shown s } ≡ label_of (read_proof s)
+labelled s e = go (read_proof s) refl e
+  where
+    go : (r : Result Proof ℕ) → read_proof s ≡ r → is_none (result_err r) ≡ true → ◌≡◌ {A = Label} (record { action = shown s }) (label_of r)
+    go (Ok t) f g = ap (λ a. record { action = a }) (shown_is s t f)
+    go (Err k) f g = absurd (cc g)
+
+pub not_labelled : (s : Str) → is_none (result_err (read_proof s)) ≡ false → record { action = 0 } ≡ label_of (read_proof s)
+not_labelled s e = go (read_proof s) e
+  where
+    go : (r : Result Proof ℕ) → is_none (result_err r) ≡ false → ◌≡◌ {A = Label} (record { action = 0 }) (label_of r)
+    go (Ok t) g = absurd (cc g)
+    go (Err k) g = refl

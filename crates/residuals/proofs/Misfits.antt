@@ -6,16 +6,15 @@ use Rattle.ccs.specs.Action.{name_of, complementary}
 use Rattle.ccs.specs.Label.{label}
 use Rattle.ccs.specs.Improper.{further, or_else, improper}
 use Rattle.ccs.specs.Reading.{read_proof}
-use Rattle.ccs.specs.System.{label_of, improper_of}
+use Rattle.ccs.specs.System.{improper_of}
 use Rattle.ccs.proofs.ProofReading.{read_is_proof}
+use Rattle.residuals.specs.Steps.{shown}
+use Rattle.residuals.proofs.Labels.{shown_is}
 use Rattle.nodes.specs.Nodes.{NodeOfProof, ProofNode}
 use Rattle.nodes.specs.Nodes.NodeOfProof.{Act, Left, Right, Both, ChooseLeft, ChooseRight, Under}
 use Rattle.nodes.specs.Nodes.ProofNode.{act_node, left_node, right_node, both_node, choose_left_node, choose_right_node, under_node}
 
--- the label's action, and the first improper node, of a string that is a proof
-abbrev pub shown : Str → ℕ
-shown s = (label_of (read_proof s)).action
-
+-- the first improper node of a string that is a proof
 abbrev pub first_improper : Str → Option ℕ
 first_improper s = improper_of (read_proof s)
 
@@ -27,9 +26,6 @@ improper_at (Both s r) = cond (complementary (shown s) (shown r)) (or_else (furt
 improper_at (ChooseLeft s) = further 1 (first_improper s)
 improper_at (ChooseRight s) = further 1 (first_improper s)
 improper_at (Under m s) = cond (nat_eq (name_of (shown s)) m) (Some 0) (further 2 (first_improper s))
-
-shown_is : (s : Str) (t : Proof) → read_proof s ≡ Ok t → shown s ≡ label t
-shown_is s t e = ap (λ r. (label_of r).action) e
 
 first_is : (s : Str) (t : Proof) → read_proof s ≡ Ok t → first_improper s ≡ improper t
 first_is s t e = ap improper_of e

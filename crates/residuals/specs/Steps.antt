@@ -1,5 +1,5 @@
 -- What is answered of strings that are to be proofs. Assumes nothing.
-use Rattle.std.specs.Prelude.{ℕ, ◌≤◌, Some, None, Option}
+use Rattle.std.specs.Prelude.{ℕ, ◌≤◌, Bool, true, false, cond, nat_eq, [], ◌∷◌, Some, None, Option}
 use Rattle.steps.specs.Meaning.{Str}
 use Rattle.ccs.specs.Reading.{read_proof}
 use Rattle.ccs.specs.Residual.{residual, origin}
@@ -21,3 +21,23 @@ beside_of f s None = Some s
 abbrev pub Within : Option ℕ → ℕ → Type 0
 Within (Some k) n = k ≤ n
 Within None n = Unit {0}
+
+-- the first byte, if there is one
+abbrev pub first_byte : Str → ℕ
+first_byte [] = 0
+first_byte (a ∷ s) = a
+
+-- what a string shows that begins with a proof, behind a name or not: two sides together are silent, and so is what is none
+unfoldable pub shown_behind : Bool → Str → ℕ
+shown_behind named [] = 0
+shown_behind true (n ∷ s) = shown_behind false s
+shown_behind false (b ∷ s) =
+    cond (nat_eq b 0x10) (first_byte s)
+    (cond (nat_eq b 0x11) (shown_behind false s)
+    (cond (nat_eq b 0x12) (shown_behind false s)
+    (cond (nat_eq b 0x14) (shown_behind false s)
+    (cond (nat_eq b 0x15) (shown_behind false s)
+    (cond (nat_eq b 0x16) (shown_behind true s) 0)))))
+
+abbrev pub shown : Str → ℕ
+shown = shown_behind false

@@ -4,7 +4,7 @@ ghost use Rattle.ccs.specs.Reading.{read_proof};
 ghost use Rattle.ccs.specs.System.{improper_of};
 ghost use Rattle.residuals.specs.Steps.{Within};
 
-use crate::label::label;
+use crate::label::shown;
 use nodes::action::{complementary, name_of};
 use nodes::proof::Proof;
 
@@ -21,7 +21,7 @@ pub fn improper(step: &[u8]) -> Option<usize>
         | Proof::ChooseLeft(part)
         | Proof::ChooseRight(part) => Some(1 + improper(part)?),
         Proof::Both(first, second) => {
-            if !complementary(label(first).action, label(second).action) {
+            if !complementary(shown(first), shown(second)) {
                 return Some(0);
             }
             if let Some(place) = improper(first) {
@@ -30,7 +30,7 @@ pub fn improper(step: &[u8]) -> Option<usize>
             Some(1 + first.len() + improper(second)?)
         }
         Proof::Under(name, part) => {
-            if name_of(label(part).action) == name {
+            if name_of(shown(part)) == name {
                 return Some(0);
             }
             Some(2 + improper(part)?)

@@ -2,25 +2,43 @@
 ghost use Rattle.std.specs.Prelude.{◌≡◌};
 ghost use Rattle.ccs.specs.Reading.{read_proof};
 ghost use Rattle.ccs.specs.System.{label_of};
+ghost use Rattle.residuals.specs.Steps.{shown};
 
 use nodes::proof::Proof;
 use steps::label::Label;
 
 // Two sides together are silent; else the step shows what its prefix does. A string that is no proof is silent.
-#[tactic(auto, using(crate::proofs::Labels::label_shows))]
+#[tactic(auto, using(crate::proofs::Labels::labelled, crate::proofs::Labels::not_labelled))]
 pub fn label(step: &[u8]) -> Label
     ensures { result ≡ label_of (read_proof step.now) }
 {
-    let Some(node) = Proof::read(step) else {
-        return Label { action: 0 };
+    let action = if Proof::fault(step).is_none() {
+        shown(step)
+    } else {
+        0
     };
-    match node {
-        Proof::Act(action) => Label { action },
-        Proof::Both(..) => Label { action: 0 },
-        Proof::Left(part)
-        | Proof::Right(part)
-        | Proof::ChooseLeft(part)
-        | Proof::ChooseRight(part)
-        | Proof::Under(_, part) => label(part),
+    Label { action }
+}
+
+// What a string shows that begins with a proof: its nodes are gone through as far as the prefix, and no more of it is read.
+// Not by `Proof::read`, which reads the string to its end at each node.
+#[tactic(auto, unfolding(crate::specs::Steps::shown_behind))]
+pub(crate) fn shown(step: &[u8]) -> u8
+    ensures { result ≡ shown step.now }
+{
+    let Some((kind, rest)) = step.split_first() else {
+        return 0;
+    };
+    match *kind {
+        0x10 => match rest.first() {
+            Some(action) => *action,
+            None => 0,
+        },
+        0x11 | 0x12 | 0x14 | 0x15 => shown(rest),
+        0x16 => match rest.split_first() {
+            Some((_, part)) => shown(part),
+            None => 0,
+        },
+        _ => 0,
     }
 }
