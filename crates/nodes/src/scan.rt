@@ -77,7 +77,8 @@ pub fn fault<G: Grammar>(grammar: &G, bytes: &[u8]) -> Option<usize>
     ensures { result ≡ whole_fault (whole (G.fits grammar.now) start bytes.now) (length bytes.now) }
 {
     match first(grammar, bytes) {
-        Ok(n) => { if n < bytes.len() { Some(n) } else { None } }
+        Ok(n) if n < bytes.len() => Some(n),
+        Ok(_) => None,
         Err(place) => Some(place),
     }
 }

@@ -61,9 +61,7 @@ impl Terms {
             _ => None,
         }
     }
-}
 
-impl Terms {
     // The node with this first byte, before these bytes; none where they do not fit it.
     fn shape<'a>(&self, kind: u8, rest: &'a [u8]) -> Option<Term<'a>>
         ensures { term_view result ≡ term_shape self.now.definitions kind rest.now }

@@ -1,4 +1,4 @@
-// Eight questions to the meaning of terms and of nets, and their answers, which anyone can work out by hand.
+// Questions to the meaning of terms and of nets, and their answers, which anyone can work out by hand.
 // It has no code. It rests on `steps`, `nets` and `ccs`.
 #![tactic(auto)]
 

@@ -1,11 +1,11 @@
 -- Which strings are bodies, and what is told of the others. Assumes nothing.
-use Rattle.std.proofs.Common.{◌≡◌, ℕ, ◌≤◌, ◌<◌, Bool, true, false, cond, not, List, [], ◌∷◌, length, take, is_some, Some, None, Ok, Err, Option, Result, nat_eq, nat_le, sym, refl, ap, ◌∙◌, subst, arith}
+use Rattle.std.proofs.Common.{◌≡◌, ℕ, ◌≤◌, Bool, true, false, cond, not, [], ◌∷◌, length, is_some, Some, None, Option, nat_eq, nat_le, sym, refl, ap, ◌∙◌, subst, arith}
 use Rattle.std.specs.Result.{result_err}
 use Rattle.std.proofs.lemmas.Bool.{eqb-true, ne_eqb, leb-true, le-leb, cond-true, cond-false}
 use Rattle.steps.specs.Meaning.{Str}
 use Rattle.ccs.specs.Syntax.{Term}
 use Rattle.ccs.specs.Syntax.Term.{nil, prefix, par, sum, restrict, call}
-use Rattle.ccs.specs.Spelling.{term_bytes, sound_term}
+use Rattle.ccs.specs.Spelling.{term_bytes}
 use Rattle.ccs.specs.Reading.{read, read_term}
 use Rattle.ccs.specs.Follow.{plain}
 use Rattle.ccs.specs.System.{past}

@@ -18,16 +18,12 @@ use Rattle.nodes.specs.Nodes.ProofNode.{act_node, left_node, right_node, both_no
 use Rattle.residuals.specs.declared.sink.Sink.{Sink}
 use Rattle.residuals.specs.Sink.{with_byte, poured}
 use Rattle.residuals.proofs.Poured.{poured_on, byte_before}
-use Rattle.terms.specs.Follow.{unfolded, followed_by, followed, onto_term}
+use Rattle.terms.specs.Follow.{unfolded, followed_by, followed, onto_term, further}
 
--- what is written behind what was, and then more; a place is so many bytes further on
-abbrev pub behind : ℕ → Result Sink ℕ → (Sink → Sink) → Result Sink ℕ
-behind n (Ok k) f = Ok (f k)
-behind n (Err j) f = Err (n + j)
-
-abbrev pub then_behind : Result Sink ℕ → (Sink → Result Sink ℕ) → Result Sink ℕ
-then_behind (Ok k) f = f k
-then_behind (Err j) f = Err (1 + j)
+-- and then more
+abbrev pub then_on : Result Sink ℕ → (Sink → Result Sink ℕ) → Result Sink ℕ
+then_on (Ok k) f = f k
+then_on (Err j) f = Err j
 
 abbrev pub with_one : Option Str → (Str → Result Sink ℕ) → Result Sink ℕ
 with_one (Some s) f = f s
@@ -46,12 +42,12 @@ module _ (ds : List Term) where
   follow_onto None m k = Err 0
   follow_onto (Some o) None k = Err 0
   follow_onto (Some o) (Some (Act a)) k = with_one (rest_of a o) (λ s. Ok (poured k s))
-  follow_onto (Some o) (Some (Left x)) k = with_two (par_of o) (λ l r. behind 1 (onto_next l x (with_byte k 0x02)) (λ k. poured k r))
-  follow_onto (Some o) (Some (Right x)) k = with_two (par_of o) (λ l r. behind 1 (onto_next r x (poured (with_byte k 0x02) l)) (λ k. k))
-  follow_onto (Some o) (Some (Both x y)) k = with_two (par_of o) (λ l r. then_behind (onto_next l x (with_byte k 0x02)) (λ k. behind (1 + length x) (onto_next r y k) (λ k. k)))
-  follow_onto (Some o) (Some (ChooseLeft x)) k = with_two (sum_of o) (λ l r. behind 1 (onto_next l x k) (λ k. k))
-  follow_onto (Some o) (Some (ChooseRight x)) k = with_two (sum_of o) (λ l r. behind 1 (onto_next r x k) (λ k. k))
-  follow_onto (Some o) (Some (Under n x)) k = with_one (restricted_of n o) (λ s. behind 2 (onto_next s x (with_byte (with_byte k 0x04) n)) (λ k. k))
+  follow_onto (Some o) (Some (Left x)) k = with_two (par_of o) (λ l r. then_on (further 1 (onto_next l x (with_byte k 0x02))) (λ k. Ok (poured k r)))
+  follow_onto (Some o) (Some (Right x)) k = with_two (par_of o) (λ l r. further 1 (onto_next r x (poured (with_byte k 0x02) l)))
+  follow_onto (Some o) (Some (Both x y)) k = with_two (par_of o) (λ l r. then_on (further 1 (onto_next l x (with_byte k 0x02))) (λ k. further (1 + length x) (onto_next r y k)))
+  follow_onto (Some o) (Some (ChooseLeft x)) k = with_two (sum_of o) (λ l r. further 1 (onto_next l x k))
+  follow_onto (Some o) (Some (ChooseRight x)) k = with_two (sum_of o) (λ l r. further 1 (onto_next r x k))
+  follow_onto (Some o) (Some (Under n x)) k = with_one (restricted_of n o) (λ s. further 2 (onto_next s x (with_byte (with_byte k 0x04) n)))
 
   -- of a term that is no call
   abbrev follow_from : Term → Proof → Result Term ℕ
@@ -77,29 +73,29 @@ module _ (ds : List Term) where
   asked a x e f = ap₂ (followed_by ds) e f
 
   -- the left side moved, and what is behind it; the right side behind the left one
-  left_moved : (r : Result Term ℕ) (q : Term) (k : Sink) → behind 1 (onto_term (with_byte k 0x02) r) (λ k. poured k (term_bytes q)) ≡ onto_term k (around 1 (λ p. par p q) r)
-  unfolding term_bytes onto_term
+  left_moved : (r : Result Term ℕ) (q : Term) (k : Sink) → then_on (further 1 (onto_term (with_byte k 0x02) r)) (λ k. Ok (poured k (term_bytes q))) ≡ onto_term k (around 1 (λ p. par p q) r)
+  unfolding term_bytes onto_term further
   left_moved (Ok p) q k = ap Ok (poured_on (with_byte k 0x02) (term_bytes p) (term_bytes q) ∙ byte_before k 0x02 (term_bytes p ++ term_bytes q))
   left_moved (Err j) q k = refl
 
-  right_moved : (r : Result Term ℕ) (p : Term) (k : Sink) → behind 1 (onto_term (poured (with_byte k 0x02) (term_bytes p)) r) (λ k. k) ≡ onto_term k (around 1 (par p) r)
-  unfolding term_bytes onto_term
+  right_moved : (r : Result Term ℕ) (p : Term) (k : Sink) → further 1 (onto_term (poured (with_byte k 0x02) (term_bytes p)) r) ≡ onto_term k (around 1 (par p) r)
+  unfolding term_bytes onto_term further
   right_moved (Ok q) p k = ap Ok (poured_on (with_byte k 0x02) (term_bytes p) (term_bytes q) ∙ byte_before k 0x02 (term_bytes p ++ term_bytes q))
   right_moved (Err j) p k = refl
 
-  both_moved : (n : ℕ) (r s : Result Term ℕ) (k : Sink) → then_behind (onto_term (with_byte k 0x02) r) (λ k. behind (1 + n) (onto_term k s) (λ k. k)) ≡ onto_term k (both_sides_go n r s)
-  unfolding term_bytes onto_term
+  both_moved : (n : ℕ) (r s : Result Term ℕ) (k : Sink) → then_on (further 1 (onto_term (with_byte k 0x02) r)) (λ k. further (1 + n) (onto_term k s)) ≡ onto_term k (both_sides_go n r s)
+  unfolding term_bytes onto_term further
   both_moved n (Ok p) (Ok q) k = ap Ok (poured_on (with_byte k 0x02) (term_bytes p) (term_bytes q) ∙ byte_before k 0x02 (term_bytes p ++ term_bytes q))
   both_moved n (Ok p) (Err j) k = ap Err (omega arith)
   both_moved n (Err j) s k = refl
 
-  branch_moved : (r : Result Term ℕ) (k : Sink) → behind 1 (onto_term k r) (λ k. k) ≡ onto_term k (around 1 (λ p. p) r)
-  unfolding onto_term
+  branch_moved : (r : Result Term ℕ) (k : Sink) → further 1 (onto_term k r) ≡ onto_term k (around 1 (λ p. p) r)
+  unfolding onto_term further
   branch_moved (Ok p) k = refl
   branch_moved (Err j) k = refl
 
-  under_moved : (r : Result Term ℕ) (n : ℕ) (k : Sink) → behind 2 (onto_term (with_byte (with_byte k 0x04) n) r) (λ k. k) ≡ onto_term k (around 2 (restrict n) r)
-  unfolding term_bytes onto_term
+  under_moved : (r : Result Term ℕ) (n : ℕ) (k : Sink) → further 2 (onto_term (with_byte (with_byte k 0x04) n) r) ≡ onto_term k (around 2 (restrict n) r)
+  unfolding term_bytes onto_term further
   under_moved (Ok p) n k = ap Ok (byte_before (with_byte k 0x04) n (term_bytes p) ∙ byte_before k 0x04 (n ∷ term_bytes p))
   under_moved (Err j) n k = refl
 
@@ -107,7 +103,7 @@ module _ (ds : List Term) where
   bytes_of s p e = sym (read_is_term (length ds) s p e).0
 
   from_nodes : {o : NodeOfTerm} {m : NodeOfProof} {q : Term} {t : Proof} → TermNode (length ds) (Some o) (Ok q) → ProofNode (Some m) (Ok t) → (k : Sink) → follow_onto (Some o) (Some m) k ≡ onto_term k (follow_from q t)
-  unfolding term_bytes onto_term
+  unfolding term_bytes onto_term further
   from_nodes nil_node act_node k = refl
   from_nodes nil_node (left_node g) k = refl
   from_nodes nil_node (right_node g) k = refl
@@ -127,11 +123,11 @@ module _ (ds : List Term) where
   from_nodes (prefix_node e) (choose_right_node g) k = refl
   from_nodes (prefix_node e) (under_node g) k = refl
   from_nodes (par_node e f) act_node k = refl
-  from_nodes (par_node {r = r} {p = p} {q = q} e f) (left_node {t = t} g) k = ap₂ (λ n r. behind 1 (onto_term (with_byte k 0x02) n) (λ k. poured k r)) (asked _ _ e g) (bytes_of r q f) ∙ left_moved (follow (body_of ds) p t) q k
-  from_nodes (par_node {s = s} {p = p} {q = q} e f) (right_node {t = t} g) k = ap₂ (λ n s. behind 1 (onto_term (poured (with_byte k 0x02) s) n) (λ k. k)) (asked _ _ f g) (bytes_of s p e) ∙ right_moved (follow (body_of ds) q t) p k
+  from_nodes (par_node {r = r} {p = p} {q = q} e f) (left_node {t = t} g) k = ap₂ (λ n r. then_on (further 1 (onto_term (with_byte k 0x02) n)) (λ k. Ok (poured k r))) (asked _ _ e g) (bytes_of r q f) ∙ left_moved (follow (body_of ds) p t) q k
+  from_nodes (par_node {s = s} {p = p} {q = q} e f) (right_node {t = t} g) k = ap₂ (λ n s. further 1 (onto_term (poured (with_byte k 0x02) s) n)) (asked _ _ f g) (bytes_of s p e) ∙ right_moved (follow (body_of ds) q t) p k
   from_nodes (par_node {p = p} {q = q} e f) (both_node {s = s} {t = t} {u = u} g h) k =
-      ap₂ (λ n m. then_behind (onto_term (with_byte k 0x02) n) (λ k. behind (1 + length s) (onto_term k m) (λ k. k))) (asked _ _ e g) (asked _ _ f h)
-      ∙ ap (λ z. then_behind (onto_term (with_byte k 0x02) (follow (body_of ds) p t)) (λ k. behind (1 + length z) (onto_term k (follow (body_of ds) q u)) (λ k. k))) (sym (read_is_proof s t g).0)
+      ap₂ (λ n m. then_on (further 1 (onto_term (with_byte k 0x02) n)) (λ k. further (1 + length s) (onto_term k m))) (asked _ _ e g) (asked _ _ f h)
+      ∙ ap (λ z. then_on (further 1 (onto_term (with_byte k 0x02) (follow (body_of ds) p t))) (λ k. further (1 + length z) (onto_term k (follow (body_of ds) q u)))) (sym (read_is_proof s t g).0)
       ∙ both_moved (length (proof_bytes t)) (follow (body_of ds) p t) (follow (body_of ds) q u) k
   from_nodes (par_node e f) (choose_left_node g) k = refl
   from_nodes (par_node e f) (choose_right_node g) k = refl
@@ -140,8 +136,8 @@ module _ (ds : List Term) where
   from_nodes (sum_node e f) (left_node g) k = refl
   from_nodes (sum_node e f) (right_node g) k = refl
   from_nodes (sum_node e f) (both_node g h) k = refl
-  from_nodes (sum_node {p = p} e f) (choose_left_node {t = t} g) k = ap (λ n. behind 1 (onto_term k n) (λ k. k)) (asked _ _ e g) ∙ branch_moved (follow (body_of ds) p t) k
-  from_nodes (sum_node {q = q} e f) (choose_right_node {t = t} g) k = ap (λ n. behind 1 (onto_term k n) (λ k. k)) (asked _ _ f g) ∙ branch_moved (follow (body_of ds) q t) k
+  from_nodes (sum_node {p = p} e f) (choose_left_node {t = t} g) k = ap (λ n. further 1 (onto_term k n)) (asked _ _ e g) ∙ branch_moved (follow (body_of ds) p t) k
+  from_nodes (sum_node {q = q} e f) (choose_right_node {t = t} g) k = ap (λ n. further 1 (onto_term k n)) (asked _ _ f g) ∙ branch_moved (follow (body_of ds) q t) k
   from_nodes (sum_node e f) (under_node g) k = refl
   from_nodes (restrict_node e) act_node k = refl
   from_nodes (restrict_node e) (left_node g) k = refl
@@ -151,8 +147,8 @@ module _ (ds : List Term) where
   from_nodes (restrict_node e) (choose_right_node g) k = refl
   from_nodes (restrict_node {m = n} {s = s} {p = p} e) (under_node {m = m} {s = x} {t = t} g) k = go (nat_eq n m) refl
     where
-      go : (c : Bool) → nat_eq n m ≡ c → with_one (cond c (Some s) None) (λ s. behind 2 (onto_next s x (with_byte (with_byte k 0x04) m)) (λ k. k)) ≡ onto_term k (cond c (around 2 (restrict n) (follow (body_of ds) p t)) (Err 0))
-      go true i = ap₂ (λ f m. behind 2 (onto_term (with_byte (with_byte k 0x04) m) f) (λ k. k)) (asked s x e g) (sym (eqb-true n m i)) ∙ under_moved (follow (body_of ds) p t) n k
+      go : (c : Bool) → nat_eq n m ≡ c → with_one (cond c (Some s) None) (λ s. further 2 (onto_next s x (with_byte (with_byte k 0x04) m))) ≡ onto_term k (cond c (around 2 (restrict n) (follow (body_of ds) p t)) (Err 0))
+      go true i = ap₂ (λ f m. further 2 (onto_term (with_byte (with_byte k 0x04) m) f)) (asked s x e g) (sym (eqb-true n m i)) ∙ under_moved (follow (body_of ds) p t) n k
       go false i = refl
   from_nodes call_node act_node k = refl
   from_nodes call_node (left_node g) k = refl

@@ -1,5 +1,5 @@
 -- The state that follows, of strings that are to be a term and a proof. Assumes nothing.
-use Rattle.std.specs.Prelude.{ℕ, ◌≤◌, List, length, Ok, Err, Result}
+use Rattle.std.specs.Prelude.{ℕ, ◌+◌, ◌≤◌, List, length, Ok, Err, Result}
 use Rattle.steps.specs.Meaning.{Str}
 use Rattle.ccs.specs.Syntax.{Term, Proof}
 use Rattle.ccs.specs.Spelling.{term_bytes}
@@ -26,6 +26,11 @@ followed ds a x = followed_by ds (read_term (length ds) a) (read_proof x)
 unfoldable pub onto_term : Sink → Result Term ℕ → Result Sink ℕ
 onto_term k (Ok p) = Ok (poured k (term_bytes p))
 onto_term k (Err j) = Err j
+
+-- a misfit is so many bytes further on
+unfoldable pub further : ℕ → Result Sink ℕ → Result Sink ℕ
+further n (Ok k) = Ok k
+further n (Err j) = Err (n + j)
 
 -- a place is within a string of this length, if one is told
 abbrev pub WithinStep : Result Sink ℕ → ℕ → Type 0

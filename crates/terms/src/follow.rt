@@ -1,7 +1,7 @@
 // The state that follows a state by a step.
-ghost use Rattle.std.specs.Prelude.{◌≡◌, length};
+ghost use Rattle.std.specs.Prelude.{◌≡◌, ℕ, ◌+◌, ◌<◌, ◌^◌, length};
 ghost use Rattle.terms.specs.Contents.{terms_of};
-ghost use Rattle.terms.specs.Follow.{followed, onto_term, WithinStep};
+ghost use Rattle.terms.specs.Follow.{followed, onto_term, further, WithinStep};
 
 use crate::terms::Terms;
 use nodes::proof::Proof;
@@ -27,50 +27,45 @@ impl Terms {
             }
             Proof::Left(part) => {
                 let (left, right) = node.sides().ok_or(0usize)?;
-                match self.follow(left, part, sink.byte(0x02)) {
-                    Ok(sink) => Ok(sink.bytes(right)),
-                    Err(place) => Err(1 + place),
-                }
+                let moved = further(1, self.follow(left, part, sink.byte(0x02)))?;
+                Ok(moved.bytes(right))
             }
             Proof::Right(part) => {
                 let (left, right) = node.sides().ok_or(0usize)?;
-                match self.follow(right, part, sink.byte(0x02).bytes(left)) {
-                    Ok(sink) => Ok(sink),
-                    Err(place) => Err(1 + place),
-                }
+                further(1, self.follow(right, part, sink.byte(0x02).bytes(left)))
             }
             Proof::Both(first, second) => {
                 let (left, right) = node.sides().ok_or(0usize)?;
-                match self.follow(left, first, sink.byte(0x02)) {
-                    Ok(sink) => match self.follow(right, second, sink) {
-                        Ok(sink) => Ok(sink),
-                        Err(place) => Err(1 + first.len() + place),
-                    },
-                    Err(place) => Err(1 + place),
-                }
+                let moved = further(1, self.follow(left, first, sink.byte(0x02)))?;
+                further(1 + first.len(), self.follow(right, second, moved))
             }
             // The choice is made: what was not taken is gone.
             Proof::ChooseLeft(part) => {
                 let (left, _) = node.branches().ok_or(0usize)?;
-                match self.follow(left, part, sink) {
-                    Ok(sink) => Ok(sink),
-                    Err(place) => Err(1 + place),
-                }
+                further(1, self.follow(left, part, sink))
             }
             Proof::ChooseRight(part) => {
                 let (_, right) = node.branches().ok_or(0usize)?;
-                match self.follow(right, part, sink) {
-                    Ok(sink) => Ok(sink),
-                    Err(place) => Err(1 + place),
-                }
+                further(1, self.follow(right, part, sink))
             }
             Proof::Under(name, part) => {
                 let inner = node.restricted(name).ok_or(0usize)?;
-                match self.follow(inner, part, sink.byte(0x04).byte(name)) {
-                    Ok(sink) => Ok(sink),
-                    Err(place) => Err(2 + place),
-                }
+                further(2, self.follow(inner, part, sink.byte(0x04).byte(name)))
             }
         }
+    }
+}
+
+// The same, but for a misfit that is so many bytes further on.
+#[tactic(auto, unfolding(crate::specs::Follow::further))]
+fn further(bytes: usize, moved: Result<Sink, usize>) -> Result<Sink, usize>
+    requires few { bytes < 2 ^ 63 }
+    requires near { WithinStep moved (2 ^ 63) }
+    ensures answer { result ≡ further bytes moved }
+    ensures within { (n : ℕ) → WithinStep moved n → WithinStep result (bytes + n) }
+{
+    match moved {
+        Ok(sink) => Ok(sink),
+        Err(place) => Err(bytes + place),
     }
 }

@@ -20,12 +20,20 @@ pub returns-in_err-left-in-Left-clause-answer : goal.returns-in_err-left-in-Left
 returns-in_err-left-in-Left-clause-answer t c =
     search (rules, follow_is (terms_of c.args.self.now) c.args.self.now.count (length_terms c.args.self.now.count c.args.self.now.bodies c.args.self.now.few) c.args.term.now c.args.step.now c.in-Some.ensures c.in-Some-read.ensures.node c.args.sink)
 
+pub returns-in_err-moved-in-Left-clause-answer : goal.returns-in_err-moved-in-Left-clause-answer
+returns-in_err-moved-in-Left-clause-answer t c =
+    search (rules, follow_is (terms_of c.args.self.now) c.args.self.now.count (length_terms c.args.self.now.count c.args.self.now.bodies c.args.self.now.few) c.args.term.now c.args.step.now c.in-Some.ensures c.in-Some-read.ensures.node c.args.sink)
+
 pub returns-in_err-left-in-Right-clause-answer : goal.returns-in_err-left-in-Right-clause-answer
 returns-in_err-left-in-Right-clause-answer t c =
     search (rules, follow_is (terms_of c.args.self.now) c.args.self.now.count (length_terms c.args.self.now.count c.args.self.now.bodies c.args.self.now.few) c.args.term.now c.args.step.now c.in-Some.ensures c.in-Some-read.ensures.node c.args.sink)
 
 pub returns-in_err-left-in-Both-clause-answer : goal.returns-in_err-left-in-Both-clause-answer
 returns-in_err-left-in-Both-clause-answer t c =
+    search (rules, follow_is (terms_of c.args.self.now) c.args.self.now.count (length_terms c.args.self.now.count c.args.self.now.bodies c.args.self.now.few) c.args.term.now c.args.step.now c.in-Some.ensures c.in-Some-read.ensures.node c.args.sink)
+
+pub returns-in_err-moved-in-Both-clause-answer : goal.returns-in_err-moved-in-Both-clause-answer
+returns-in_err-moved-in-Both-clause-answer t c =
     search (rules, follow_is (terms_of c.args.self.now) c.args.self.now.count (length_terms c.args.self.now.count c.args.self.now.bodies c.args.self.now.few) c.args.term.now c.args.step.now c.in-Some.ensures c.in-Some-read.ensures.node c.args.sink)
 
 pub returns-in_err-left-in-ChooseLeft-clause-answer : goal.returns-in_err-left-in-ChooseLeft-clause-answer
@@ -44,54 +52,26 @@ pub returns-in_ok-rest-in-Act-clause-answer : goal.returns-in_ok-rest-in-Act-cla
 returns-in_ok-rest-in-Act-clause-answer t c =
     search (rules, follow_is (terms_of c.args.self.now) c.args.self.now.count (length_terms c.args.self.now.count c.args.self.now.bodies c.args.self.now.few) c.args.term.now c.args.step.now c.in-Some.ensures c.in-Some-read.ensures.node c.args.sink)
 
-pub returns-in-Ok-clause-answer : goal.returns-in-Ok-clause-answer
-returns-in-Ok-clause-answer t c =
+pub returns-in_ok-moved-in-Left-clause-answer : goal.returns-in_ok-moved-in-Left-clause-answer
+returns-in_ok-moved-in-Left-clause-answer t c =
     search (rules, follow_is (terms_of c.args.self.now) c.args.self.now.count (length_terms c.args.self.now.count c.args.self.now.bodies c.args.self.now.few) c.args.term.now c.args.step.now c.in-Some.ensures c.in-Some-read.ensures.node c.args.sink)
 
-pub returns-in-Err-clause-answer : goal.returns-in-Err-clause-answer
-returns-in-Err-clause-answer t c =
+pub returns-in_ok-left-in-Right-clause-answer : goal.returns-in_ok-left-in-Right-clause-answer
+returns-in_ok-left-in-Right-clause-answer t c =
     search (rules, follow_is (terms_of c.args.self.now) c.args.self.now.count (length_terms c.args.self.now.count c.args.self.now.bodies c.args.self.now.few) c.args.term.now c.args.step.now c.in-Some.ensures c.in-Some-read.ensures.node c.args.sink)
 
-pub returns-in-Ok-follow-clause-answer : goal.returns-in-Ok-follow-clause-answer
-returns-in-Ok-follow-clause-answer t c =
+pub returns-in_ok-moved-in-Both-clause-answer : goal.returns-in_ok-moved-in-Both-clause-answer
+returns-in_ok-moved-in-Both-clause-answer t c =
     search (rules, follow_is (terms_of c.args.self.now) c.args.self.now.count (length_terms c.args.self.now.count c.args.self.now.bodies c.args.self.now.few) c.args.term.now c.args.step.now c.in-Some.ensures c.in-Some-read.ensures.node c.args.sink)
 
-pub returns-in-Err-follow-clause-answer : goal.returns-in-Err-follow-clause-answer
-returns-in-Err-follow-clause-answer t c =
+pub returns-in_ok-left-in-ChooseLeft-clause-answer : goal.returns-in_ok-left-in-ChooseLeft-clause-answer
+returns-in_ok-left-in-ChooseLeft-clause-answer t c =
     search (rules, follow_is (terms_of c.args.self.now) c.args.self.now.count (length_terms c.args.self.now.count c.args.self.now.bodies c.args.self.now.few) c.args.term.now c.args.step.now c.in-Some.ensures c.in-Some-read.ensures.node c.args.sink)
 
-pub returns-in-Ok-follow-3-clause-answer : goal.returns-in-Ok-follow-3-clause-answer
-returns-in-Ok-follow-3-clause-answer t c =
+pub returns-in_ok-right-in-ChooseRight-clause-answer : goal.returns-in_ok-right-in-ChooseRight-clause-answer
+returns-in_ok-right-in-ChooseRight-clause-answer t c =
     search (rules, follow_is (terms_of c.args.self.now) c.args.self.now.count (length_terms c.args.self.now.count c.args.self.now.bodies c.args.self.now.few) c.args.term.now c.args.step.now c.in-Some.ensures c.in-Some-read.ensures.node c.args.sink)
 
-pub returns-in-Err-follow-3-clause-answer : goal.returns-in-Err-follow-3-clause-answer
-returns-in-Err-follow-3-clause-answer t c =
-    search (rules, follow_is (terms_of c.args.self.now) c.args.self.now.count (length_terms c.args.self.now.count c.args.self.now.bodies c.args.self.now.few) c.args.term.now c.args.step.now c.in-Some.ensures c.in-Some-read.ensures.node c.args.sink)
-
-pub returns-in-Err-follow-2-clause-answer : goal.returns-in-Err-follow-2-clause-answer
-returns-in-Err-follow-2-clause-answer t c =
-    search (rules, follow_is (terms_of c.args.self.now) c.args.self.now.count (length_terms c.args.self.now.count c.args.self.now.bodies c.args.self.now.few) c.args.term.now c.args.step.now c.in-Some.ensures c.in-Some-read.ensures.node c.args.sink)
-
-pub returns-in-Ok-follow-4-clause-answer : goal.returns-in-Ok-follow-4-clause-answer
-returns-in-Ok-follow-4-clause-answer t c =
-    search (rules, follow_is (terms_of c.args.self.now) c.args.self.now.count (length_terms c.args.self.now.count c.args.self.now.bodies c.args.self.now.few) c.args.term.now c.args.step.now c.in-Some.ensures c.in-Some-read.ensures.node c.args.sink)
-
-pub returns-in-Err-follow-4-clause-answer : goal.returns-in-Err-follow-4-clause-answer
-returns-in-Err-follow-4-clause-answer t c =
-    search (rules, follow_is (terms_of c.args.self.now) c.args.self.now.count (length_terms c.args.self.now.count c.args.self.now.bodies c.args.self.now.few) c.args.term.now c.args.step.now c.in-Some.ensures c.in-Some-read.ensures.node c.args.sink)
-
-pub returns-in-Ok-follow-5-clause-answer : goal.returns-in-Ok-follow-5-clause-answer
-returns-in-Ok-follow-5-clause-answer t c =
-    search (rules, follow_is (terms_of c.args.self.now) c.args.self.now.count (length_terms c.args.self.now.count c.args.self.now.bodies c.args.self.now.few) c.args.term.now c.args.step.now c.in-Some.ensures c.in-Some-read.ensures.node c.args.sink)
-
-pub returns-in-Err-follow-5-clause-answer : goal.returns-in-Err-follow-5-clause-answer
-returns-in-Err-follow-5-clause-answer t c =
-    search (rules, follow_is (terms_of c.args.self.now) c.args.self.now.count (length_terms c.args.self.now.count c.args.self.now.bodies c.args.self.now.few) c.args.term.now c.args.step.now c.in-Some.ensures c.in-Some-read.ensures.node c.args.sink)
-
-pub returns-in-Ok-follow-6-clause-answer : goal.returns-in-Ok-follow-6-clause-answer
-returns-in-Ok-follow-6-clause-answer t c =
-    search (rules, follow_is (terms_of c.args.self.now) c.args.self.now.count (length_terms c.args.self.now.count c.args.self.now.bodies c.args.self.now.few) c.args.term.now c.args.step.now c.in-Some.ensures c.in-Some-read.ensures.node c.args.sink)
-
-pub returns-in-Err-follow-6-clause-answer : goal.returns-in-Err-follow-6-clause-answer
-returns-in-Err-follow-6-clause-answer t c =
+pub returns-in_ok-inner-in-Under-clause-answer : goal.returns-in_ok-inner-in-Under-clause-answer
+returns-in_ok-inner-in-Under-clause-answer t c =
     search (rules, follow_is (terms_of c.args.self.now) c.args.self.now.count (length_terms c.args.self.now.count c.args.self.now.bodies c.args.self.now.few) c.args.term.now c.args.step.now c.in-Some.ensures c.in-Some-read.ensures.node c.args.sink)
