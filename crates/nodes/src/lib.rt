@@ -5,5 +5,5 @@
 pub mod action;
 pub mod parts;
 pub mod proof;
-pub mod scan;
+mod scan;
 pub mod term;
