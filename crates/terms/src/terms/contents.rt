@@ -7,7 +7,7 @@ ghost use Rattle.nodes.specs.Nodes.{TermNode, term_view};
 ghost use Rattle.terms.specs.Answers.{state_checked};
 ghost use Rattle.terms.specs.Bodies.{body_fault, add_told, bodies_after, body_limit, place_of, WithinBody};
 ghost use Rattle.terms.specs.BodyLaws.{BodiesTold};
-ghost use Rattle.terms.specs.Contents.{terms_of};
+ghost use Rattle.terms.specs.Contents.{count_of, bodies_of, terms_of};
 ghost use Rattle.terms.specs.Follow.{unfolded};
 
 use crate::place::past;
@@ -41,8 +41,8 @@ impl BodyFault {
 impl Terms {
     // Terms over so many definitions, sixteen at most, whose bodies are still to come.
     pub fn new(count: u8) -> Terms
-        ensures count { result.count ≡ min count 16 }
-        ensures bodies { result.bodies ≡ [] }
+        ensures count { count_of result ≡ min count 16 }
+        ensures bodies { bodies_of result ≡ [] }
     {
         Terms {
             count: count.min(DEFINITION_LIMIT),
@@ -53,9 +53,9 @@ impl Terms {
     // Gives the next definition its body, or refuses it and stays as it is.
     #[tactic(auto, using(crate::proofs::Bodies::bodies_told))]
     pub fn add(&mut self, body: &[u8]) -> Result<(), BodyFault>
-        ensures answer { result ≡ add_told self.old.count self.old.bodies body.now }
-        ensures count { self.new.count ≡ self.old.count }
-        ensures bodies { self.new.bodies ≡ bodies_after self.old.count self.old.bodies body.now }
+        ensures answer { result ≡ add_told (count_of self.old) (bodies_of self.old) body.now }
+        ensures count { count_of self.new ≡ count_of self.old }
+        ensures bodies { bodies_of self.new ≡ bodies_after (count_of self.old) (bodies_of self.old) body.now }
         ensures place { WithinBody result }
         ensures told { BodiesTold }
     {
