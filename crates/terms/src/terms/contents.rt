@@ -66,7 +66,7 @@ impl Terms {
             return Err(BodyFault::NoBody(place));
         }
         let Some(held) = Held::of(body) else {
-            return Err(BodyFault::NoBody(255));
+            return unreachable();
         };
         self.bodies.push(held);
         Ok(())
