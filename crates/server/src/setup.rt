@@ -8,8 +8,8 @@ use frame::fault::FrameFault;
 use frame::setup::System;
 use systems::terms_or_net::TermsOrNet;
 
+mod definitions;
 mod net;
-mod terms;
 
 // Makes the terms or the net, or refuses the first body or event that breaks a rule.
 pub(crate) fn build(system: &System<'_>) -> Result<TermsOrNet, FrameFault>
@@ -17,7 +17,7 @@ pub(crate) fn build(system: &System<'_>) -> Result<TermsOrNet, FrameFault>
     ensures { design_view result ≡ design_told (system_view system.now) }
 {
     let made = match system {
-        System::Terms(definitions) => TermsOrNet::Terms(terms::build(definitions)?),
+        System::Terms(bodies) => TermsOrNet::Terms(definitions::build(bodies)?),
         System::Net(events) => TermsOrNet::Net(net::build(events)?),
     };
     Ok(made)

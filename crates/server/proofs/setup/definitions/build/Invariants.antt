@@ -3,7 +3,7 @@ use Rattle.frame.specs.Parts.{bodies}
 use Rattle.frame.specs.Frames.{body_place}
 use Rattle.frame.specs.Reading.{bodies_of}
 use Rattle.server.specs.TermsSetup.{given}
-use Rattle.server.proofs.setup.terms.build.Given as goal
+use Rattle.server.proofs.setup.definitions.build.Given as goal
 
 abbrev pub invariant-loop-definition : goal.invariant-loop-definition
 invariant-loop-definition l =

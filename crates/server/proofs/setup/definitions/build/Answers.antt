@@ -9,7 +9,7 @@ use Rattle.frame.proofs.Places.{first_place, next_place}
 use Rattle.terms.specs.Bodies.{terms_in, add_told, bodies_after, place_of}
 use Rattle.server.specs.TermsSetup.{given}
 use Rattle.server.proofs.Given.{given_all, given_on, given_bad, taken_fault, taken_after, refused_fault}
-use Rattle.server.proofs.setup.terms.build.Goals as goal
+use Rattle.server.proofs.setup.definitions.build.Goals as goal
 
 pub loop-definition-init : goal.loop-definition-init
 loop-definition-init c =
