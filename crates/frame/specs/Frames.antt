@@ -2,6 +2,7 @@
 use Rattle.std.specs.Prelude.{◌≡◌, ℕ, ◌+◌, ◌*◌, ◌/◌, ◌<◌, ◌≤◌, List, [], ◌∷◌, ◌++◌, length}
 use Rattle.std.specs.List.{All}
 pub use Rattle.nets.specs.Events.{event_limit}
+pub use Rattle.terms.specs.Bodies.{definition_limit}
 
 -- The system of a setup: terms, by the bodies of their definitions, or a net, by the bytes of its events.
 pub data SystemView : Type 0 where
@@ -78,10 +79,6 @@ LaidOut (print sheet) = Unit {0}
 -- the most bytes of a frame
 abbrev pub frame_limit : ℕ
 frame_limit = 1024
-
--- the most definitions of a setup
-abbrev pub definition_limit : ℕ
-definition_limit = 16
 
 -- A system has at most 16 definitions, or 48 events; or it has more.
 abbrev pub Few : SystemView → Type 0

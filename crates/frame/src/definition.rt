@@ -13,9 +13,6 @@ pub struct Definition<'a> {
     pub body: &'a [u8],
 }
 
-// The most definitions of a setup.
-pub const DEFINITION_LIMIT: u8 = 16;
-
 // So many definitions, each a byte that counts the bytes of its body, and the body; `bytes` begins with them.
 #[derive(Clone, Copy)]
 pub struct Definitions<'a> {

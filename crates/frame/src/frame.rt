@@ -2,7 +2,7 @@
 ghost use Rattle.std.specs.Prelude.{◌≡◌, ◌<◌, IfOk, length};
 ghost use Rattle.frame.specs.Frames.{WithinRules};
 ghost use Rattle.frame.specs.Reading.{frame_told, call_told, frame_view, viewed, sheet_told, sheet_byte_told};
-ghost use Rattle.frame.specs.Format.{ReadsFrames, PlacesMalformed, PlacesBadSetups, PlacesBodies};
+ghost use Rattle.frame.specs.Format.{AreBytes, ReadsFrames, PlacesMalformed, PlacesBadSetups, PlacesBodies};
 
 use crate::fault::FrameFault;
 use crate::setup::Setup;
@@ -29,6 +29,7 @@ impl Frame<'_> {
     pub fn read(frame: &[u8]) -> Result<Frame<'_>, FrameFault>
         ensures answer { viewed frame_view result ≡ frame_told frame.now }
         ensures rules { IfOk result (λ f. WithinRules (frame_view f)) }
+        ensures bytes { AreBytes frame.now }
         ensures frames { ReadsFrames }
         ensures malformed { PlacesMalformed }
         ensures setups { PlacesBadSetups }

@@ -1,5 +1,5 @@
 // Frames: byte strings that each name a call, read without copying.
-// It rests on `steps` for the way refusals are told, and on `nets` for events.
+// It rests on `steps` for the way refusals are told, on `nets` for events, and on `terms` for the most definitions that there may be.
 #![tactic(auto)]
 
 pub mod definition;

@@ -2,11 +2,12 @@
 ghost use Rattle.std.specs.Prelude.{◌≡◌, ◌+◌, ◌<◌, ◌≤◌, length};
 ghost use Rattle.frame.specs.Reading.{layout_told, system_view, few, rules_told, parts_told, setup_told, setup_view, viewed};
 
-use crate::definition::{DEFINITION_LIMIT, Definitions};
+use crate::definition::Definitions;
 use crate::event::Events;
 use crate::fault::FrameFault;
 use crate::layout::{Kind, layout};
 use nets::net::EVENT_LIMIT;
+use terms::terms::DEFINITION_LIMIT;
 
 // The parts of a setup: pairs of two bytes, names of one, and the system.
 #[derive(Clone, Copy)]
@@ -78,7 +79,7 @@ impl System<'_> {
         ensures { result ≡ few (system_view self.now) }
     {
         match self {
-            System::Terms(definitions) => definitions.count <= DEFINITION_LIMIT,
+            System::Terms(definitions) => usize::from(definitions.count) <= DEFINITION_LIMIT,
             System::Net(events) => events.bytes.len() <= EVENT_SIZE * EVENT_LIMIT,
         }
     }

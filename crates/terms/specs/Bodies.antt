@@ -9,6 +9,10 @@ use Rattle.ccs.specs.System.{past}
 use Rattle.terms.specs.declared.terms.contents.BodyFault.{BodyFault}
 use Rattle.terms.specs.declared.terms.contents.BodyFault.TheVariants.{Full, NoBody}
 
+-- the most definitions, and the most bytes of a body
+abbrev pub definition_limit : ℕ
+definition_limit = 16
+
 abbrev pub body_limit : ℕ
 body_limit = 255
 

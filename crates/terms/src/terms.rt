@@ -1,6 +1,6 @@
 // Terms over some definitions, each of which has a body that is a term over them and no call.
 ghost use Rattle.std.specs.Prelude.{◌≡◌, ◌≤◌, true, length};
-ghost use Rattle.terms.specs.Bodies.{sound_bodies_of};
+ghost use Rattle.terms.specs.Bodies.{definition_limit, sound_bodies_of};
 
 use byte_strings::held::Held;
 use byte_strings::list::FixedList;
@@ -8,14 +8,14 @@ use byte_strings::list::FixedList;
 pub mod contents;
 
 // The most definitions.
-pub const DEFINITION_LIMIT: u8 = 16;
+pub const DEFINITION_LIMIT: usize = 16;
 
 // The definitions that terms may call: how many, and the bodies of the first of them. One whose body is still to come does nothing.
 #[derive(Clone, Copy)]
 pub struct Terms {
     count: u8,
-    bodies: FixedList<Held<255>, 16>,
-    ghost limited: { count ≤ 16 },
+    bodies: FixedList<Held<255>, DEFINITION_LIMIT>,
+    ghost limited: { count ≤ definition_limit },
     ghost few: { length bodies ≤ count },
     ghost sound: { sound_bodies_of count bodies ≡ true },
 }

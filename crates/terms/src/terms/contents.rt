@@ -5,7 +5,7 @@ ghost use Rattle.ccs.specs.Reading.{read_term};
 ghost use Rattle.nodes.specs.Lent.{part_view};
 ghost use Rattle.nodes.specs.Nodes.{TermNode, term_view};
 ghost use Rattle.terms.specs.Answers.{state_checked};
-ghost use Rattle.terms.specs.Bodies.{body_fault, add_told, bodies_after, body_limit, place_of, WithinBody};
+ghost use Rattle.terms.specs.Bodies.{definition_limit, body_fault, add_told, bodies_after, body_limit, place_of, WithinBody};
 ghost use Rattle.terms.specs.BodyLaws.{BodiesTold};
 ghost use Rattle.terms.specs.Contents.{count_of, bodies_of, terms_of};
 ghost use Rattle.terms.specs.Follow.{unfolded};
@@ -41,11 +41,11 @@ impl BodyFault {
 impl Terms {
     // Terms over so many definitions, sixteen at most, whose bodies are still to come.
     pub fn new(count: u8) -> Terms
-        ensures count { count_of result ≡ min count 16 }
+        ensures count { count_of result ≡ min count definition_limit }
         ensures bodies { bodies_of result ≡ [] }
     {
         Terms {
-            count: count.min(DEFINITION_LIMIT),
+            count: count.min(DEFINITION_LIMIT as u8),
             bodies: FixedList::empty(),
         }
     }
