@@ -588,23 +588,29 @@ class Session:
         """
         random = self.random
         one, other = self.open_two()
-        near = range(MOST_STEPS - 1, MOST_STEPS + 2)
-        total = random.choice((*near, random.randrange(MOST_STEPS, 2 * MOST_STEPS + 1)))
-        least, most = max(0, total - MOST_STEPS), min(MOST_STEPS, total)
-        shared = random.choice((0, random.randrange(most - least + 1)))
-        own = random.randrange(least, most - shared + 1)
+        own, others, shared = self.steps_near_limit()
         conditions = random_conditions(random, 13)
         rings = [ring_events(random, conditions[i : i + 4]) for i in (0, 4, 8)]
         starts = [ring[0].before for ring in rings]
         rival = event_between(random, conditions[:1], conditions[12:])
         self.send_setup(self.net_of([event for ring in rings for event in ring] + [rival]))
-        for number, ring, count in ((one, 0, own), (other, 1, total - shared - own)):
+        for number, ring, count in ((one, 0, own), (other, 1, others)):
             self.send(OPEN, number, encode_set(set().union(*starts)))
             self.walk_rings(number, random.sample([ring] * count + [2] * shared, count + shared))
         if random.random() < 0.3:
             self.send(ADD, other, 12)
         self.send(JOIN, one, other)
         self.after_join(one, other)
+
+    def steps_near_limit(self) -> tuple[int, int, int]:
+        """How many steps two runs have each of their own, and share, with about as many in all as a sheet takes."""
+        random = self.random
+        near = range(MOST_STEPS - 1, MOST_STEPS + 2)
+        total = random.choice((*near, random.randrange(MOST_STEPS, 2 * MOST_STEPS + 1)))
+        least, most = max(0, total - MOST_STEPS), min(MOST_STEPS, total)
+        shared = random.choice((0, random.randrange(most - least + 1)))
+        own = random.randrange(least, most - shared + 1)
+        return own, total - shared - own, shared
 
     def walk_rings(self, number: int, rings: list[int]) -> None:
         """Adds the next event of each of these rings of four."""
@@ -615,17 +621,13 @@ class Session:
         """The same over three loops side by side, behind choices that the first step makes."""
         random = self.random
         one, other = self.open_two()
-        near = range(MOST_STEPS - 1, MOST_STEPS + 2)
-        total = random.choice((*near, random.randrange(MOST_STEPS, 2 * MOST_STEPS + 1)))
-        least, most = max(0, total - MOST_STEPS), min(MOST_STEPS, total)
-        shared = random.choice((0, random.randrange(most - least + 1)))
-        own = random.randrange(least, most - shared + 1)
+        own, others, shared = self.steps_near_limit()
         actions = [random_action(random) for _ in range(3)]
         depth = random.choice((0, 0, 1, 5, 20))
         self.send_setup(self.terms_of([chain([action], Call(i)) for i, action in enumerate(actions)]))
         places = ((OnLeft,), (OnRight, OnLeft), (OnRight, OnRight))
         start = choices(depth, Parallel(Call(0), Parallel(Call(1), Call(2)))).encoded
-        for number, loop, count in ((one, 0, own), (other, 1, total - shared - own)):
+        for number, loop, count in ((one, 0, own), (other, 1, others)):
             self.send(OPEN, number, start)
             for index, side in enumerate(random.sample([loop] * count + [2] * shared, count + shared)):
                 outer = (ChooseRight,) * (depth if index == 0 else 0)

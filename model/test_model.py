@@ -12,6 +12,7 @@ from random import Random
 from typing import Any
 
 from bruteforce import Search, possible_proofs
+from cases import Case, CaseTest
 from generate import generate
 from nets import Event, Marking, Net, encode_set
 from sheetbench import Bench, Server, split_lines
@@ -36,10 +37,6 @@ ONLY_TO = "A002000001" + TO
 SWAPPED = "A002000002" + BACK + TO
 NO_EVENTS = "A002000000"
 OPEN = "B000" + C0
-
-# Each case: why, the lines before (their answers do not matter), the line, its
-# answer with lines separated by blanks.
-Case = tuple[str, list[str], str, str]
 
 FRAME_CASES: list[Case] = [
     ("an empty line is a frame of no bytes", [], "", "01010000"),
@@ -302,16 +299,7 @@ class NoStates(Net):
         raise Refusal(Number.STATE, Layer.SYSTEM, 2)
 
 
-class ModelTest(unittest.TestCase):
-    def check(self, cases: list[Case]) -> None:
-        for why, before, line, answer in cases:
-            with self.subTest(why):
-                server = Server()
-                for earlier in before:
-                    server.answer(earlier.encode())
-                found = server.answer(line.encode())
-                self.assertEqual(found.decode(), answer.replace(" ", "\n") + "\n")
-
+class ModelTest(CaseTest):
     def test_frames(self) -> None:
         self.check(FRAME_CASES)
 

@@ -9,8 +9,8 @@ from itertools import product
 from random import Random
 
 from bruteforce import possible_proofs
+from cases import Case, CaseTest
 from nets import Event, Net, decode_set, encode_set
-from sheetbench import Server
 from systems import Number, Refusal
 from terms import (
     Act,
@@ -38,10 +38,6 @@ from terms import (
     label,
     left_after,
 )
-
-# Each case: why, the lines before (their answers do not matter), the line, its
-# answer with lines separated by blanks.
-Case = tuple[str, list[str], str, str]
 
 NO_DEFINITIONS = "A001000000"
 
@@ -432,16 +428,7 @@ JOIN_CASES: list[Case] = [
 ]
 
 
-class CasesTest(unittest.TestCase):
-    def check(self, cases: list[Case]) -> None:
-        for why, earlier_lines, line, answer in cases:
-            with self.subTest(why):
-                server = Server()
-                for earlier in earlier_lines:
-                    server.answer(earlier.encode())
-                found = server.answer(line.encode())
-                self.assertEqual(found.decode(), answer.replace(" ", "\n") + "\n")
-
+class CasesTest(CaseTest):
     def test_setups(self) -> None:
         self.check(SETUP_CASES)
 
