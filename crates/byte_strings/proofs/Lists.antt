@@ -1,7 +1,7 @@
--- Items over blank places. Assumes nothing.
-use Rattle.std.proofs.Common.{◌≡◌, ℕ, ◌+◌, ◌-◌, ◌<◌, ◌≤◌, List, ◌++◌, length, drop, replicate, slice_set, refl, ap, sym, ◌∙◌, arith, length-append, length-drop}
+-- Items over blank places, and one more behind them. Assumes nothing.
+use Rattle.std.proofs.Common.{◌≡◌, ℕ, ◌+◌, ◌-◌, ◌<◌, ◌≤◌, List, [], ◌∷◌, ◌++◌, length, take, drop, replicate, slice_set, refl, ap, sym, ◌∙◌, arith, length-append, length-drop}
 use lib.ListN.{length-replicate}
-use Rattle.std.proofs.lemmas.List.{drop_at, drop-replicate, drop-drop, drop-set-lt, length-set}
+use Rattle.std.proofs.lemmas.List.{take_all, drop_at, drop-replicate, drop-drop, drop-set-lt, length-set}
 
 -- items over blank places are held
 pub holds : {A : Type 0} (items : List A) (n : ℕ) (blank : A) → length items ≤ n
@@ -21,3 +21,7 @@ holds_more places n len item blank long clear room =
       length-set places len item ∙ long,
       drop-set-lt (len + 1) places len item (omega arith) ∙ sym (drop-drop 1 len places) ∙ ap (drop 1) clear ∙ drop-replicate 1 (n - len) blank ∙ ap (λ k. replicate k blank) less,
     )
+
+-- an item behind those of a list that has room
+pub pushed : {A : Type 0} (n : ℕ) (items : List A) (item : A) → length items < n → take n (items ++ item ∷ []) ≡ items ++ item ∷ []
+pushed n items item room = take_all n (items ++ item ∷ []) (omega (arith, length-append items (item ∷ []), room))

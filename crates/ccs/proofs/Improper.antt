@@ -2,7 +2,7 @@
 use Rattle.std.proofs.Common.{◌≡◌, ℕ, suc, ◌+◌, ◌<◌, Bool, true, false, ◌&&◌, not, length, Some, None, Option, nat_eq, sym, refl, ap, ◌∙◌, subst, inl, inr, ◌⊎◌, length-append, arith}
 use Rattle.ccs.specs.Syntax.{Proof}
 use Rattle.ccs.specs.Syntax.Proof.{act, on_left, on_right, both, choose_left, choose_right, under}
-use Rattle.ccs.specs.Action.{name_of, complementary}
+use Rattle.actions.specs.Action.{name_of, complementary}
 use Rattle.ccs.specs.Label.{label, proper}
 use Rattle.ccs.specs.Spelling.{proof_bytes}
 use Rattle.ccs.specs.First.{First, FirstIf}

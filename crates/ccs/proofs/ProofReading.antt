@@ -4,7 +4,7 @@ use Rattle.std.proofs.lemmas.Bool.{eqb-true}
 use Rattle.steps.specs.Meaning.{Str}
 use Rattle.ccs.specs.Syntax.{Proof}
 use Rattle.ccs.specs.Syntax.Proof.{act, on_left, on_right, both, choose_left, choose_right, under}
-use Rattle.ccs.specs.Action.{is_name, is_action}
+use Rattle.actions.specs.Action.{is_name, is_action}
 use Rattle.ccs.specs.Spelling.{proof_bytes, sound_proof}
 use Rattle.ccs.specs.Reading.{Due, Next, read, around, proof_byte, only, read_proof}
 use Rattle.ccs.specs.Reading.Due.{node, action, name, number}

@@ -4,7 +4,7 @@ use Rattle.std.proofs.lemmas.Bool.{eqb-true, ltb-true, lt-ltb, leb-true, le-leb}
 use Rattle.steps.specs.Meaning.{Str}
 use Rattle.ccs.specs.Syntax.{Term}
 use Rattle.ccs.specs.Syntax.Term.{nil, prefix, par, sum, restrict, call}
-use Rattle.ccs.specs.Action.{is_name, is_action}
+use Rattle.actions.specs.Action.{is_name, is_action}
 use Rattle.ccs.specs.Spelling.{term_bytes, sound_term}
 use Rattle.ccs.specs.Reading.{Due, Next, read, around, term_byte, only, read_term}
 use Rattle.ccs.specs.Reading.Due.{node, action, name, number}

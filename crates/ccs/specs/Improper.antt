@@ -2,7 +2,7 @@
 use Rattle.std.specs.Prelude.{◌≡◌, ℕ, suc, ◌+◌, true, false, cond, length, Some, None, Option, nat_eq}
 use Rattle.ccs.specs.Syntax.{Proof}
 use Rattle.ccs.specs.Syntax.Proof.{act, on_left, on_right, both, choose_left, choose_right, under}
-use Rattle.ccs.specs.Action.{name_of, complementary}
+use Rattle.actions.specs.Action.{name_of, complementary}
 use Rattle.ccs.specs.Label.{label}
 use Rattle.ccs.specs.Spelling.{proof_bytes}
 

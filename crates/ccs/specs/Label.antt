@@ -2,7 +2,7 @@
 use Rattle.std.specs.Prelude.{ℕ, Bool, true, ◌&&◌, not, nat_eq}
 use Rattle.ccs.specs.Syntax.{Proof}
 use Rattle.ccs.specs.Syntax.Proof.{act, on_left, on_right, both, choose_left, choose_right, under}
-use Rattle.ccs.specs.Action.{name_of, complementary}
+use Rattle.actions.specs.Action.{name_of, complementary}
 
 -- both sides together are silent; all else shows what its prefix does
 unfoldable pub label : Proof → ℕ

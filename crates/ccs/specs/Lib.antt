@@ -1,5 +1,4 @@
 pub mod Syntax
-pub mod Action
 pub mod Label
 pub mod Moves
 pub mod After

@@ -4,7 +4,7 @@ use Rattle.steps.specs.Meaning.{Str}
 use Rattle.ccs.specs.Syntax.{Term, Proof}
 use Rattle.ccs.specs.Syntax.Term.{nil, prefix, par, sum, restrict, call}
 use Rattle.ccs.specs.Syntax.Proof.{act, on_left, on_right, both, choose_left, choose_right, under}
-use Rattle.ccs.specs.Action.{is_name, is_action}
+use Rattle.actions.specs.Action.{is_name, is_action}
 
 -- what the next byte has to be: a node's, or what belongs to the node before it
 pub data Due : Type 0 where

@@ -1,24 +1,15 @@
 -- The counted parts of a setup, taken off the front of its bytes. Assumes nothing.
 use Rattle.std.specs.Prelude.{ℕ, zero, suc, ◌*◌, cond, List, [], ◌∷◌, length, take, drop, Some, None, Option, nat_le}
-use Rattle.std.specs.Borrow.{Bor}
 
 -- counted items of a size, and what stands behind them; none where bytes are missing
 abbrev pub part_told : ℕ → List ℕ → Option (List ℕ × List ℕ)
 part_told size [] = None
 part_told size (count ∷ s) = cond (nat_le (count * size) (length s)) (Some (take (count * size) s, drop (count * size) s)) None
 
-abbrev pub part_view : Option (Bor (List ℕ) × Bor (List ℕ)) → Option (List ℕ × List ℕ)
-part_view None = None
-part_view (Some (items, rest)) = Some (items.now, rest.now)
-
 -- what stands behind so many counted bodies; none where bytes are missing
 unfoldable pub behind_told : ℕ → List ℕ → Option (List ℕ)
 behind_told zero s = Some s
 behind_told (suc n) s = elim (part_told 1 s) [ None ↦ None | Some (body, rest) ↦ behind_told n rest ]
-
-abbrev pub behind_view : Option (Bor (List ℕ)) → Option (List ℕ)
-behind_view None = None
-behind_view (Some rest) = Some rest.now
 
 -- so many counted bodies, or those before the first of which bytes are missing
 unfoldable pub bodies : ℕ → List ℕ → List (List ℕ)

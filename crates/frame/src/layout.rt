@@ -1,6 +1,7 @@
 // The layout of a setup: its parts taken apart.
 ghost use Rattle.std.specs.Prelude.{◌≡◌, ◌*◌, ◌<◌, ◌≤◌, IfSome, length};
-ghost use Rattle.frame.specs.Parts.{part_told, part_view, behind_told, behind_view};
+ghost use Rattle.byte_strings.specs.Lent.{part_view, pair_view};
+ghost use Rattle.frame.specs.Parts.{part_told, behind_told};
 ghost use Rattle.frame.specs.Reading.{layout_told, layout_view, system_told, system_part_view, terms_told, definitions_view};
 
 use crate::definition::Definitions;
@@ -63,7 +64,7 @@ fn split_definitions(bytes: &[u8]) -> Option<(Definitions<'_>, &[u8])>
 
 // What stands behind so many definitions; none where bytes are missing.
 fn skip_definitions(count: u8, bytes: &[u8]) -> Option<&[u8]>
-    ensures { behind_view result ≡ behind_told count bytes.now }
+    ensures { part_view result ≡ behind_told count bytes.now }
 {
     let mut rest = bytes;
     for _ in 0..count {
@@ -77,7 +78,7 @@ fn skip_definitions(count: u8, bytes: &[u8]) -> Option<&[u8]>
 
 // Splits off a byte that counts items of `size` bytes, and the items; what stands behind them comes second.
 pub(crate) fn split_off(bytes: &[u8], size: u8) -> Option<(&[u8], &[u8])>
-    ensures part { part_view result ≡ part_told size bytes.now }
+    ensures part { pair_view result ≡ part_told size bytes.now }
     ensures short { IfSome result (λ part. length part.0.now ≤ 255 * size) }
 {
     let (count, rest) = bytes.split_first()?;

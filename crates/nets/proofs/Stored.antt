@@ -1,6 +1,6 @@
 -- The events that a net holds: how many, what adding one gives, and that all are sound.
-use Rattle.std.proofs.Common.{◌≡◌, ℕ, ◌+◌, ◌^◌, ◌<◌, ◌≤◌, true, not, ltb, List, [], ◌∷◌, ◌++◌, length, get_or, take, is_some, Some, None, Ok, Err, Option, refl, ap, ◌∙◌, arith, length-append}
-use Rattle.std.proofs.lemmas.List.{take_all}
+use Rattle.std.proofs.Common.{◌≡◌, ℕ, ◌+◌, ◌^◌, ◌<◌, ◌≤◌, true, not, ltb, List, [], ◌∷◌, ◌++◌, length, get_or, take, is_some, Some, None, Ok, Err, Option, refl, ap, ◌∙◌, arith}
+use Rattle.byte_strings.proofs.Lists.{pushed}
 use Rattle.std.proofs.lemmas.Option.{slice_get-get_or, slice_get_past}
 use Rattle.std.proofs.lemmas.Bool.{cond-true, cond-false, lt-ltb, le-ltb, and_from, and_parts}
 use Rattle.steps.specs.Meaning.{Str}
@@ -34,7 +34,7 @@ sound_added e low high none =
 -- a sound event behind sound ones, where there is room
 module _ (es : List Event) (e : Event) (space : length es < 48) where
   pub stored : take 48 (es ++ e ∷ []) ≡ es ++ e ∷ []
-  stored = take_all 48 (es ++ e ∷ []) (omega (arith, length-append es (e ∷ []), space))
+  stored = pushed 48 es e space
 
   pub stored_sound : all_sound es ≡ true → e.before < 2 ^ 64 → e.after < 2 ^ 64 → event_fault e ≡ None → all_sound (take 48 (es ++ e ∷ [])) ≡ true
   stored_sound sound low high none = ap all_sound stored ∙ all_sound_push es e sound (sound_added e low high none)

@@ -1,12 +1,9 @@
 -- Which events a net takes, and what is wrong with any other. Assumes nothing.
 use Rattle.std.specs.Prelude.{ℕ, ◌^◌, Bool, true, cond, not, ◌&&◌, List, [], ◌∷◌, ◌++◌, length, is_some, Some, None, Ok, Err, Option, Result, ◌==◌, bit_and, nat_lt}
+use Rattle.actions.specs.Action.{is_action}
 use Rattle.nets.specs.declared.event.Event.{Event}
 use Rattle.nets.specs.declared.event.EventFault.{EventFault}
 use Rattle.nets.specs.declared.event.EventFault.TheVariants.{Full, NoAction, EmptySet, SharedCondition}
-
--- silent, 0; a name, 1 to 63; or the co-name of one, 65 to 127
-abbrev pub is_action : ℕ → Bool
-is_action a = nat_lt a 128 && not (a == 64)
 
 -- some condition is before the event, and some after it
 abbrev pub filled : Event → Bool

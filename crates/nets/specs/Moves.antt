@@ -6,10 +6,11 @@ use Rattle.std.proofs.lemmas.Nat.{and_comm, and_le_r, or_lt}
 use Rattle.std.proofs.lemmas.Bool.{and_parts, cases_Bool, cond-true, cond-false, ltb-true, eqb-true, eqb-false, ne_eqb, not-true, false≢true}
 use Rattle.std.specs.List.{slice_get}
 use Rattle.steps.specs.Meaning.{Str}
+use Rattle.actions.specs.Action.{is_action}
 use Rattle.nets.specs.declared.event.Event.{Event}
 use Rattle.nets.specs.declared.event.EventFault.{EventFault}
 use Rattle.nets.specs.Marking.{bytes_of}
-use Rattle.nets.specs.Events.{is_action, filled, disjoint, event_fault, narrow, sound_event, all_sound}
+use Rattle.nets.specs.Events.{filled, disjoint, event_fault, narrow, sound_event, all_sound}
 use Rattle.nets.specs.Firing.{touched, possible, switched, fired, apart}
 use Rattle.nets.specs.System.{found, read_event, after_firing, follow, remains}
 use Rattle.nets.specs.Cases.{some_same, none_some, ok_same, err_ok}

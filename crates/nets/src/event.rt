@@ -3,6 +3,7 @@ ghost use Rattle.std.specs.Prelude.{◌≡◌, ℕ, true, ◌↔◌, Some};
 ghost use Rattle.nets.specs.Events.{event_fault, add_told};
 ghost use Rattle.nets.specs.Firing.{touched, fired, apart, Fires, Apart};
 
+use actions::action::is_action;
 use byte_strings::list::Blank;
 
 // An event: its action, and the conditions before and after it, bit c standing for condition c.
@@ -73,7 +74,7 @@ impl Event {
     pub fn check(self) -> Result<(), EventFault>
         ensures { result ≡ add_told (event_fault self) }
     {
-        if self.action >= 0x80 || self.action == 0x40 {
+        if !is_action(self.action) {
             return Err(EventFault::NoAction);
         }
         if self.before == 0 || self.after == 0 {

@@ -5,7 +5,7 @@ use Rattle.steps.specs.Meaning.{Str}
 use Rattle.ccs.specs.Syntax.{Term, Proof}
 use Rattle.ccs.specs.Syntax.Term.{nil, prefix, par, sum, restrict, call}
 use Rattle.ccs.specs.Syntax.Proof.{act, on_left, on_right, both, choose_left, choose_right, under}
-use Rattle.ccs.specs.Action.{is_name, is_action}
+use Rattle.actions.specs.Action.{is_name, is_action}
 use Rattle.ccs.specs.Spelling.{term_bytes, sound_term, proof_bytes, sound_proof}
 use Rattle.ccs.specs.Reading.{term_byte, proof_byte}
 use Rattle.ccs.proofs.Cases.{both_of}

@@ -1,4 +1,3 @@
-pub mod Lent
 pub mod Whole
 pub mod Grammars
 pub mod Nodes

@@ -2,7 +2,6 @@
 // It rests on `byte_strings` and on the meaning of terms in `ccs`.
 #![tactic(auto)]
 
-pub mod action;
 pub mod parts;
 pub mod proof;
 mod scan;

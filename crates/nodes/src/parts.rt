@@ -2,7 +2,7 @@
 ghost use Rattle.std.specs.Prelude.{◌≡◌};
 ghost use Rattle.nodes.specs.Nodes.{node_of_proof, sides_of, left_branch_of, right_branch_of, under_of};
 ghost use Rattle.nodes.specs.Nodes.{node_of_term, rest_of, par_of, sum_of, restricted_of, called_of};
-ghost use Rattle.nodes.specs.Lent.{part_view, pair_view, sides_view};
+ghost use Rattle.byte_strings.specs.Lent.{part_view, pair_view, sides_view};
 
 use crate::proof::Proof;
 use crate::term::Term;

@@ -1,7 +1,7 @@
 // How far a string is a term, or a proof: byte by byte, with a count of those that are due.
 ghost use Rattle.std.specs.Prelude.{◌≡◌, ℕ, ◌+◌, ◌<◌, ◌^◌, Option, length};
 ghost use Rattle.nodes.specs.declared.scan.Wanted.{Wanted};
-ghost use Rattle.nodes.specs.Lent.{pair_view};
+ghost use Rattle.byte_strings.specs.Lent.{pair_view};
 ghost use Rattle.nodes.specs.Whole.{at_most_one_more, done, whole, start, whole_fault, split_told};
 
 // What the next byte has to be: a node's first, or what belongs to the node before it.

@@ -2,7 +2,7 @@
 use Rattle.std.proofs.Common.{◌≡◌, ℕ, ◌+◌, cond, length, Some, None, Ok, Option, Result, nat_eq, refl, ap, ap₂, arith}
 use Rattle.steps.specs.Meaning.{Str}
 use Rattle.ccs.specs.Syntax.{Proof}
-use Rattle.ccs.specs.Action.{name_of, complementary}
+use Rattle.actions.specs.Action.{name_of, complementary}
 use Rattle.ccs.specs.Label.{label}
 use Rattle.ccs.specs.Improper.{further, or_else, improper}
 use Rattle.ccs.specs.Reading.{read_proof}

@@ -5,7 +5,7 @@ ghost use Rattle.ccs.specs.System.{improper_of};
 ghost use Rattle.residuals.specs.Steps.{Within};
 
 use crate::label::shown;
-use nodes::action::{complementary, name_of};
+use actions::action::{complementary, name_of};
 use nodes::proof::Proof;
 
 // The first improper node, by the place of its first byte: two sides that show no name and its co-name, or a restriction of the name that

@@ -1,6 +1,6 @@
 // The step of which another is left after a third.
 ghost use Rattle.std.specs.Prelude.{◌≡◌};
-ghost use Rattle.nodes.specs.Lent.{part_view};
+ghost use Rattle.byte_strings.specs.Lent.{part_view};
 ghost use Rattle.residuals.specs.Sink.{onto};
 ghost use Rattle.residuals.specs.Steps.{origin_of, beside_of};
 

@@ -1,6 +1,6 @@
 // What is left of a step after an independent one.
 ghost use Rattle.std.specs.Prelude.{◌≡◌};
-ghost use Rattle.nodes.specs.Lent.{part_view};
+ghost use Rattle.byte_strings.specs.Lent.{part_view};
 ghost use Rattle.residuals.specs.Sink.{onto};
 ghost use Rattle.residuals.specs.Steps.{residual_of, beside_of};
 

@@ -2,7 +2,7 @@
 ghost use Rattle.std.specs.Prelude.{◌≡◌, ◌≤◌, [], min, IfSome};
 ghost use Rattle.std.specs.List.{slice_get};
 ghost use Rattle.ccs.specs.Reading.{read_term};
-ghost use Rattle.nodes.specs.Lent.{part_view};
+ghost use Rattle.byte_strings.specs.Lent.{part_view};
 ghost use Rattle.nodes.specs.Nodes.{TermNode, term_view};
 ghost use Rattle.terms.specs.Answers.{state_checked};
 ghost use Rattle.terms.specs.Bodies.{definition_limit, body_fault, add_told, bodies_after, body_limit, place_of, WithinBody};

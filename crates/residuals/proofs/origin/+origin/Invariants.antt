@@ -1,5 +1,5 @@
 use Rattle.std.proofs.Common.{◌+◌, ◌*◌, length}
-use Rattle.nodes.specs.Lent.{part_view}
+use Rattle.byte_strings.specs.Lent.{part_view}
 use Rattle.residuals.proofs.Onto.{size}
 use Rattle.residuals.proofs.origin.+origin.Given as goal
 

@@ -1,7 +1,7 @@
 -- Strings that are lent, as the strings that they are. Assumes nothing.
 use Rattle.std.specs.Prelude.{Some, None, Option}
 use Rattle.std.specs.Borrow.{Bor}
-use Rattle.steps.specs.Meaning.{Str}
+use Rattle.byte_strings.specs.Buffer.{Str}
 
 abbrev pub part_view : Option (Bor Str) → Option Str
 part_view None = None

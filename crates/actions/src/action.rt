@@ -1,6 +1,6 @@
 // Actions, names and co-names.
 ghost use Rattle.std.specs.Prelude.{◌≡◌, ◌&&◌, ◌+◌, nat_eq};
-ghost use Rattle.ccs.specs.Action as actions;
+ghost use Rattle.actions.specs.Action as actions;
 
 // Names are 0x01 to 0x3F.
 pub fn is_name(byte: u8) -> bool

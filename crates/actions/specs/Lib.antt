@@ -1,0 +1,4 @@
+pub mod Action
+pub mod Names
+pub mod Pairs
+pub mod Contents

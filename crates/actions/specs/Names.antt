@@ -1,0 +1,35 @@
+-- Which names a list takes, and which actions it hides. Assumes nothing.
+use Rattle.std.specs.Prelude.{◌≡◌, ℕ, ◌+◌, Bool, true, cond, ◌&&◌, ◌⊎◌, ◌↔◌, List, [], ◌∷◌, ◌++◌, length, Some, None, Ok, Err, Option, Result, nat_lt, nat_eq}
+use Rattle.std.specs.List.{list_any, Contains}
+use Rattle.actions.specs.declared.names.NameFault.{NameFault}
+use Rattle.actions.specs.declared.names.NameFault.TheVariants.{Full, NoName}
+use Rattle.actions.specs.Action.{is_name, name_of}
+
+-- the most names of a list
+abbrev pub name_limit : ℕ
+name_limit = 8
+
+abbrev pub all_names : List ℕ → Bool
+all_names [] = true
+all_names (n ∷ ns) = is_name n && all_names ns
+
+-- why a list of these names does not take one more, if so
+abbrev pub name_fault : List ℕ → ℕ → Option NameFault
+name_fault ns n = cond (nat_lt (length ns) name_limit) (cond (is_name n) None (Some NoName)) (Some Full)
+
+-- what adding a name answers, and the names afterwards
+abbrev pub name_told : Option NameFault → Result (Unit {0}) NameFault
+name_told None = Ok tt
+name_told (Some f) = Err f
+
+abbrev pub names_after : Option NameFault → List ℕ → ℕ → List ℕ
+names_after None ns n = ns ++ n ∷ []
+names_after (Some f) ns n = ns
+
+-- whether the name that an action shows is listed
+abbrev pub hides : List ℕ → ℕ → Bool
+hides ns a = list_any (λ n. nat_eq n (name_of a)) ns
+
+-- The actions that names hide are these names and their co-names, so never the silent one.
+abbrev pub HidesListed : List ℕ → ℕ → Type 0
+HidesListed ns a = (hides ns a ≡ true) ↔ ((n : ℕ) × (is_name n ≡ true) × Contains ns n × ((a ≡ n) ⊎ (a ≡ n + 64)))

@@ -1,0 +1,50 @@
+-- Which pairs of names a list takes, and what they make of an action. Assumes nothing.
+use Rattle.std.specs.Prelude.{◌≡◌, ◌≢◌, ℕ, ◌+◌, Bool, true, cond, not, ◌&&◌, List, [], ◌∷◌, ◌++◌, length, is_some, Some, None, Ok, Err, Option, Result, nat_lt, nat_le, nat_eq}
+use Rattle.std.specs.List.{Contains}
+use Rattle.actions.specs.declared.pairs.Pair.{Pair}
+use Rattle.actions.specs.declared.pairs.PairFault.{PairFault}
+use Rattle.actions.specs.declared.pairs.PairFault.TheVariants.{Full, FromNoName, FromTwice, ToNoName}
+use Rattle.actions.specs.Action.{is_name, name_of, complementary}
+
+-- the most pairs of a list
+abbrev pub pair_limit : ℕ
+pair_limit = 8
+
+-- the name that is put in the place of a name
+abbrev pub to_of : List Pair → ℕ → Option ℕ
+to_of [] n = None
+to_of (p ∷ ps) n = cond (nat_eq p.from n) (Some p.to) (to_of ps n)
+
+-- names only, and none with two pairs
+abbrev pub sound_pairs : List Pair → Bool
+sound_pairs [] = true
+sound_pairs (p ∷ ps) = (is_name p.from && is_name p.to) && (not (is_some (to_of ps p.from)) && sound_pairs ps)
+
+-- what is wrong with a pair beside these
+abbrev pub beside_fault : List Pair → Pair → Option PairFault
+beside_fault ps p =
+    cond (is_name p.from) (cond (is_some (to_of ps p.from)) (Some FromTwice) (cond (is_name p.to) None (Some ToNoName))) (Some FromNoName)
+
+-- why a list of these pairs does not take one more, if so
+abbrev pub pair_fault : List Pair → Pair → Option PairFault
+pair_fault ps p = cond (nat_lt (length ps) pair_limit) (beside_fault ps p) (Some Full)
+
+-- what adding a pair answers, and the pairs afterwards
+abbrev pub pair_told : Option PairFault → Result (Unit {0}) PairFault
+pair_told None = Ok tt
+pair_told (Some f) = Err f
+
+abbrev pub pairs_after : Option PairFault → List Pair → Pair → List Pair
+pairs_after None ps p = ps ++ p ∷ []
+pairs_after (Some f) ps p = ps
+
+-- an action with its name replaced
+abbrev pub renamed : List Pair → ℕ → ℕ
+renamed ps a = elim (to_of ps (name_of a)) [ None ↦ a | Some n ↦ cond (nat_le a 63) n (n + 64) ]
+
+-- Pairs replace the names that they list, in names and in co-names, and nothing else; the silent action stays silent.
+pub record RenamesNames (ps : List Pair) : Type 0 where
+  pub listed : (p : Pair) → Contains ps p → (renamed ps p.from ≡ p.to) × (renamed ps (p.from + 64) ≡ p.to + 64)
+  pub others : (a : ℕ) → ((p : Pair) → Contains ps p → p.from ≢ name_of a) → renamed ps a ≡ a
+  pub silent : renamed ps 0 ≡ 0
+  pub complements : (a b : ℕ) → complementary a b ≡ true → complementary (renamed ps a) (renamed ps b) ≡ true

@@ -1,0 +1,7 @@
+// Actions, names, and the lists of names that masks and renamings have.
+// It rests on `byte_strings`.
+#![tactic(auto)]
+
+pub mod action;
+pub mod names;
+pub mod pairs;
