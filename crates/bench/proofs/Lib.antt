@@ -7,3 +7,4 @@ pub mod Joining
 pub mod Tabled
 pub mod Printing
 pub mod Silent
+pub mod Looking

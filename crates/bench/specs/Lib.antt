@@ -7,3 +7,4 @@ pub mod Join
 pub mod Table
 pub mod Print
 pub mod Walk
+pub mod Look

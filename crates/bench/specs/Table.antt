@@ -3,6 +3,7 @@ use Rattle.std.specs.Prelude.{ℕ, cond, List, map, Some, None, Ok, Err, Option,
 use Rattle.bench.specs.declared.fault.BenchFault.{BenchFault}
 use Rattle.bench.specs.declared.fault.BenchFault.TheVariants.{NoSheet}
 use Rattle.bench.specs.declared.bench.Bench.{Bench}
+use Rattle.bench.specs.declared.sheet.Standing.{Standing}
 use Rattle.bench.specs.Page.{Page, page_of, blank_page}
 use Rattle.bench.specs.Calls.{Outcome}
 
@@ -25,3 +26,8 @@ pages_after (Err f) ps s = ps
 -- the page of a sheet that may not be there
 abbrev pub page_at : List Page → ℕ → Option Page
 page_at ps s = cond (nat_lt s 4) (Some (slice_index_or ps s blank_page)) None
+
+-- its standing
+abbrev pub standing_of : Option Page → Option Standing
+standing_of None = None
+standing_of (Some p) = Some p.standing

@@ -5,6 +5,7 @@ use byte_strings::held::Held;
 
 mod calls;
 mod join;
+mod look;
 mod print;
 mod release;
 mod replay;

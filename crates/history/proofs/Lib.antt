@@ -14,3 +14,4 @@ mod Conflicts
 mod Promised
 mod Performing
 mod PlainCalls
+mod Reporting

@@ -2,3 +2,4 @@ pub mod History
 pub mod Views
 pub mod Told
 pub mod Plain
+pub mod Reports

@@ -5,4 +5,5 @@
 pub mod call;
 pub mod perform;
 pub mod plain;
+pub mod reports;
 mod turn;

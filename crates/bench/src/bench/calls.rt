@@ -6,11 +6,12 @@ ghost use Rattle.bench.specs.Calls.{answered, accepted, opened, added, withdrawn
 ghost use Rattle.bench.specs.Swap.{swapped};
 ghost use Rattle.bench.specs.Join.{named_page, pair_told, joined};
 ghost use Rattle.bench.specs.Print.{printed};
-ghost use Rattle.bench.specs.Table.{pages_of, on_sheet, pages_after, page_at, index_told};
+ghost use Rattle.bench.specs.Look.{looked};
+ghost use Rattle.bench.specs.Table.{pages_of, on_sheet, pages_after, page_at, standing_of, index_told};
 
 use crate::bench::Bench;
 use crate::fault::BenchFault;
-use crate::sheet::Sheet;
+use crate::sheet::{Sheet, Standing};
 use steps::system::StepSystem;
 
 // The index of the sheet that a call names.
@@ -155,5 +156,29 @@ impl Bench {
     {
         let s = index(sheet)?;
         self.sheets[s].print(system, out)
+    }
+
+    // Answers the state after the first `steps` steps of a sheet, and changes nothing.
+    pub fn look<S: StepSystem>(
+        &mut self,
+        system: &S,
+        sheet: u8,
+        steps: u8,
+        out: &mut [u8],
+    ) -> Result<usize, BenchFault>
+        ensures answer { result ≡ count (answered (on_sheet (pages_of self.old) sheet (looked (S.transitions system.now) steps (length out.old)))) }
+        ensures buffer { out.new ≡ kept (answered (on_sheet (pages_of self.old) sheet (looked (S.transitions system.now) steps (length out.old)))) out.old }
+        ensures unchanged { self.new ≡ self.old }
+    {
+        let s = index(sheet)?;
+        self.sheets[s].look(system, steps, out)
+    }
+
+    // The standing of a sheet, if there is one of that number.
+    pub fn standing(&self, sheet: u8) -> Option<Standing>
+        ensures { result ≡ standing_of (page_at (pages_of self.now) sheet) }
+    {
+        let named = self.sheets.get(usize::from(sheet))?;
+        Some(named.standing())
     }
 }

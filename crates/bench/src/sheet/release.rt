@@ -1,4 +1,4 @@
-// The calls that change a sheet's standing only.
+// A sheet's standing, and the calls that change it only.
 ghost use Rattle.std.specs.Prelude.{◌≡◌, true, is_err};
 ghost use Rattle.bench.specs.Page.{page_of};
 ghost use Rattle.bench.specs.Calls.{accepted, after, restood, released, reopened};
@@ -8,6 +8,13 @@ use crate::sheet::{Head, Sheet, Standing};
 use steps::system::StepSystem;
 
 impl Sheet {
+    // Whether the sheet is blank, open or released.
+    pub(crate) fn standing(&self) -> Standing
+        ensures { result ≡ (page_of self.now).standing }
+    {
+        self.head.standing
+    }
+
     // Releases an open sheet.
     pub(crate) fn release<S: StepSystem>(&mut self, system: &S) -> Result<(), BenchFault>
         ensures answer { result ≡ accepted (released (S.transitions system.now) (page_of self.old)) }

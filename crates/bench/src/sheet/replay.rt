@@ -1,5 +1,5 @@
 // The replay of a sheet in a step system.
-ghost use Rattle.std.specs.Prelude.{◌≡◌, ◌≤◌, take};
+ghost use Rattle.std.specs.Prelude.{◌≡◌, ◌≤◌, length, take};
 ghost use Rattle.bench.specs.Page.{page_of};
 ghost use Rattle.bench.specs.Replay.{replayed, ended};
 
@@ -8,6 +8,25 @@ use crate::sheet::{Sheet, Standing};
 use crate::state::walk;
 use byte_strings::held::Held;
 use steps::system::StepSystem;
+
+// The state that rows lead to from a start, or the row that stops them.
+pub(crate) fn retrace<S: StepSystem>(
+    system: &S,
+    start: &Held<256>,
+    rows: &[Held<64>],
+) -> Result<Held<256>, BenchFault>
+    requires { length rows.now ≤ 32 }
+    ensures { result ≡ replayed (S.transitions system.now) start.now rows.now }
+{
+    system
+        .state(start.items())
+        .map_err(|fault| BenchFault::Stopped(0, fault))?;
+    let end = walk(system, start, rows).map_err(|halt| BenchFault::Stopped(
+        halt.number,
+        halt.fault,
+    ))?;
+    Ok(end)
+}
 
 impl Sheet {
     // The state that the first `count` rows lead to from the start, or the row that stops them.
@@ -19,14 +38,7 @@ impl Sheet {
         requires { count ≤ 32 }
         ensures { result ≡ replayed (S.transitions system.now) self.now.start (take count (page_of self.now).rows) }
     {
-        system
-            .state(self.start.items())
-            .map_err(|fault| BenchFault::Stopped(0, fault))?;
-        let end = walk(system, &self.start, &self.rows[..count]).map_err(|halt| BenchFault::Stopped(
-            halt.number,
-            halt.fault,
-        ))?;
-        Ok(end)
+        retrace(system, &self.start, &self.rows[..count])
     }
 
     // The end of a sheet of the given standing, or why it has none.
