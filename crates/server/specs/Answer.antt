@@ -10,7 +10,8 @@ use Rattle.bench.specs.Calls.{Outcome, answered, opened, added, withdrawn, relea
 use Rattle.bench.specs.Swap.{swapped}
 use Rattle.bench.specs.Join.{joined}
 use Rattle.bench.specs.Print.{printed}
-use Rattle.bench.specs.Table.{pages_of, on_sheet, pages_after, page_at}
+use Rattle.bench.specs.Table.{pages_of, on_sheet, pages_after, page_at, standing_of}
+use Rattle.bench.specs.declared.sheet.Standing.{Standing}
 use Rattle.frame.specs.declared.fault.FrameFault.{FrameFault}
 use Rattle.frame.specs.declared.fault.FrameFault.TheVariants.{Malformed}
 use Rattle.frame.specs.Refusals.{frame_refusal}
@@ -48,6 +49,18 @@ sheet_reply m s o = record { text = call_text (answered o); model = record { des
 
 abbrev pub print_reply : Model → Outcome → Reply
 print_reply m o = record { text = print_text (answered o); model = m }
+
+-- the standing of the sheet that a frame names, if there is one
+abbrev pub named_standing : List Page → FrameView → Option Standing
+named_standing ps (setup pairs names system) = None
+named_standing ps (open_sheet s state) = standing_of (page_at ps s)
+named_standing ps (add s step) = standing_of (page_at ps s)
+named_standing ps (swap s place) = standing_of (page_at ps s)
+named_standing ps (withdraw s) = standing_of (page_at ps s)
+named_standing ps (join s e) = standing_of (page_at ps s)
+named_standing ps (release s) = standing_of (page_at ps s)
+named_standing ps (reopen s) = standing_of (page_at ps s)
+named_standing ps (print s) = standing_of (page_at ps s)
 
 abbrev pub system_of : Model → Transitions
 system_of m = transitions_of m.design

@@ -3,12 +3,14 @@ ghost use Rattle.std.specs.Prelude.{◌≡◌};
 ghost use Rattle.frame.specs.Frames.{WithinRules};
 ghost use Rattle.frame.specs.Reading.{frame_view};
 ghost use Rattle.server.specs.Text.{Answers};
-ghost use Rattle.server.specs.Answer.{model_of, frame_reply};
+ghost use Rattle.server.specs.Answer.{model_of, named_standing, frame_reply};
 
 use crate::fault::Fault;
 use crate::server::Server;
 use crate::text::TEXT_LIMIT;
 use crate::{setup, text};
+use bench::fault::BenchFault;
+use bench::sheet::Standing;
 use frame::frame::Frame;
 
 impl Server {
@@ -24,38 +26,68 @@ impl Server {
     {
         // What an accepted call answers is the first n bytes, but for a printed text.
         let mut end = [0u8; 256];
-        // A match and no table of functions: each frame has data of its own, and the frames are these.
-        let n = match frame {
-            Frame::Setup(setup) => {
+        // The call and the sheet's standing decide together. By the frames themselves: each has data of its own.
+        let n = match (self.standing(&frame), frame) {
+            (_, Frame::Setup(setup)) => {
                 self.system = setup::build(&setup.system)?;
                 0
             }
-            Frame::Open { sheet, state } => {
+            (Some(Standing::Blank), Frame::Open { sheet, state }) => {
                 self.bench.open_sheet(&self.system, sheet, state)?;
                 0
             }
-            Frame::Add { sheet, step } => self.bench.add(&self.system, sheet, step, &mut end)?,
-            Frame::Swap { sheet, place } => {
+            (Some(Standing::Open), Frame::Open { sheet, state }) => {
+                self.bench.open_sheet(&self.system, sheet, state)?;
+                0
+            }
+            (Some(Standing::Open), Frame::Add { sheet, step }) => {
+                self.bench.add(&self.system, sheet, step, &mut end)?
+            }
+            (Some(Standing::Open), Frame::Swap { sheet, place }) => {
                 self.bench.swap(&self.system, sheet, place)?;
                 0
             }
-            Frame::Withdraw { sheet } => self.bench.withdraw(&self.system, sheet, &mut end)?,
-            Frame::Join { sheet, other } => {
+            (Some(Standing::Open), Frame::Withdraw { sheet }) => {
+                self.bench.withdraw(&self.system, sheet, &mut end)?
+            }
+            (Some(Standing::Open), Frame::Join { sheet, other }) => {
                 let (len, shared) = self.bench.join(&self.system, sheet, other)?;
                 end[0] = len;
                 end[1] = shared;
                 2
             }
-            Frame::Release { sheet } => {
+            (Some(Standing::Open), Frame::Release { sheet }) => {
                 self.bench.release(&self.system, sheet)?;
                 0
             }
-            Frame::Reopen { sheet } => {
+            (Some(Standing::Released), Frame::Reopen { sheet }) => {
                 self.bench.reopen(&self.system, sheet)?;
                 0
             }
-            Frame::Print { sheet } => return Ok(self.bench.print(&self.system, sheet, out)?),
+            (Some(Standing::Released), Frame::Print { sheet }) => {
+                return Ok(self.bench.print(&self.system, sheet, out)?)
+            }
+            (Some(_), _) => return Err(BenchFault::WrongStanding(1).into()),
+            (None, _) => return Err(BenchFault::NoSheet(1).into()),
         };
         Ok(text::accept(&end[0..n], out))
+    }
+
+    // The standing of the sheet that a frame names, if there is such a sheet.
+    fn standing(&self, frame: &Frame<'_>) -> Option<Standing>
+        ensures { result ≡ named_standing (model_of self.now).pages (frame_view frame.now) }
+    {
+        let sheet = match frame {
+            Frame::Setup(_) => return None,
+            Frame::Open { sheet, .. } => *sheet,
+            Frame::Add { sheet, .. } => *sheet,
+            Frame::Swap { sheet, .. } => *sheet,
+            Frame::Withdraw { sheet } => *sheet,
+            Frame::Join { sheet, .. } => *sheet,
+            Frame::Release { sheet } => *sheet,
+            Frame::Reopen { sheet } => *sheet,
+            Frame::Print { sheet } => *sheet,
+        };
+        self.bench.standing(sheet)
     }
 }
