@@ -1,0 +1,4 @@
+pub mod Mask
+pub mod Renaming
+pub mod MaskLaws
+pub mod RenamingLaws
