@@ -34,8 +34,8 @@ impl<S: StepSystem> Mask<S> {
         ensures { result ≡ both_told (masked (names_of self.now.names) (S.transitions self.now.system)) x.now y.now (Ok tt) }
     {
         let first = self.shown(x);
-        if let Err(MaskFault::Inner(_)) = first {
-            first?;
+        if let Err(MaskFault::Inner(fault)) = first {
+            return Err(MaskFault::Inner(fault));
         }
         self.shown(y)?;
         first?;
