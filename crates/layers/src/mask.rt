@@ -1,7 +1,7 @@
 // A mask: the system inside, without the steps that show certain names.
 ghost use Rattle.std.specs.Prelude.{◌≡◌, Ok};
 ghost use Rattle.actions.specs.Contents.{names_of};
-ghost use Rattle.steps.specs.Told.{label_told, both_told};
+ghost use Rattle.steps.specs.Told.{both_told};
 ghost use Rattle.layers.specs.Mask.{masked, masked_independence};
 ghost use Rattle.layers.specs.MaskLaws.{masked_laws};
 
@@ -18,28 +18,16 @@ pub struct Mask<S> {
 }
 
 impl<S: StepSystem> Mask<S> {
-    // What the step shows, if the mask lets it through.
-    fn shown(&self, step: &[u8]) -> Result<Label, MaskFault>
-        ensures { result ≡ label_told (masked (names_of self.now.names) (S.transitions self.now.system)) step.now }
-    {
-        let label = self.system.label(step)?;
-        if self.names.hides(label.action) {
-            return Err(MaskFault::Masked);
-        }
-        Ok(label)
-    }
-
     // Does the mask let both steps through? A string that is no step is sent back before one that is masked.
     fn both_shown(&self, x: &[u8], y: &[u8]) -> Result<(), MaskFault>
         ensures { result ≡ both_told (masked (names_of self.now.names) (S.transitions self.now.system)) x.now y.now (Ok tt) }
     {
-        let first = self.shown(x);
+        let first = self.step(x);
         if let Err(MaskFault::Inner(fault)) = first {
             return Err(MaskFault::Inner(fault));
         }
-        self.shown(y)?;
-        first?;
-        Ok(())
+        self.step(y)?;
+        first
     }
 }
 
@@ -55,16 +43,20 @@ impl<S: StepSystem> StepSystem for Mask<S> {
     }
 
     fn step(&self, step: &[u8]) -> Result<(), MaskFault> {
-        self.shown(step)?;
+        self.label(step)?;
         Ok(())
     }
 
     fn label(&self, step: &[u8]) -> Result<Label, MaskFault> {
-        self.shown(step)
+        let label = self.system.label(step)?;
+        if self.names.hides(label.action) {
+            return Err(MaskFault::Masked);
+        }
+        Ok(label)
     }
 
     fn next(&self, state: &[u8], step: &[u8], out: &mut [u8]) -> Result<usize, MaskFault> {
-        self.shown(step)?;
+        self.step(step)?;
         self.system.next(state, step, out)
     }
 
