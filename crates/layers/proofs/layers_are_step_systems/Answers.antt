@@ -1,0 +1,15 @@
+use Rattle.actions.specs.Contents.{names_of, pairs_of}
+use Rattle.layers.proofs.Promises.{masked_steps, renamed_labels, masked_renamed, laws_kept}
+use Rattle.layers.proofs.layers_are_step_systems.Goals as goal
+
+pub returns-clause-masks : goal.returns-clause-masks
+returns-clause-masks c = λ names t i. masked_steps (names_of names) names.sound t i
+
+pub returns-clause-renamings : goal.returns-clause-renamings
+returns-clause-renamings c = λ pairs t. renamed_labels (pairs_of pairs) pairs.sound t
+
+pub returns-clause-laws : goal.returns-clause-laws
+returns-clause-laws c = λ names pairs t i. laws_kept (names_of names) (pairs_of pairs) t i
+
+pub returns-clause-together : goal.returns-clause-together
+returns-clause-together c = λ names pairs t. masked_renamed (pairs_of pairs) pairs.sound (names_of names) t names.sound

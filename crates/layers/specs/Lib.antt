@@ -1,0 +1,5 @@
+pub mod Mask
+pub mod Renaming
+pub mod MaskLaws
+pub mod RenamingLaws
+pub mod Promises

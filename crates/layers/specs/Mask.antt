@@ -1,0 +1,34 @@
+-- A step system from which steps are taken away by the names that they show. Assumes nothing.
+use Rattle.std.specs.Prelude.{ℕ, Bool, true, false, cond, ◌||◌, List, None, Err}
+use Rattle.actions.specs.Names.{hides}
+use Rattle.steps.specs.Meaning.{Str, Transitions, Independence}
+
+module _ (names : List ℕ) (t : Transitions) where
+  -- whether a step shows a listed name or its co-name
+  abbrev pub stops : Str → Bool
+  stops x = hides names (t.label x).action
+
+  -- A step that is stopped is no step, and leads nowhere. All else is as inside.
+  abbrev pub masked : Transitions
+  masked =
+      record {
+        state = t.state;
+        step = λ x. cond (stops x) false (t.step x);
+        label = t.label;
+        next = λ a x. cond (stops x) (Err 0) (t.next a x);
+        bad_state = t.bad_state;
+        bad_step = t.bad_step;
+        hidden = λ x. cond (stops x) true (t.hidden x);
+      }
+
+  -- whether one of two steps is stopped
+  abbrev pub stops_one : Str → Str → Bool
+  stops_one x y = stops x || stops y
+
+  -- A step that is stopped is independent of none.
+  abbrev pub masked_independence : Independence → Independence
+  masked_independence i =
+      record {
+        left = λ x y. cond (stops_one x y) None (i.left x y);
+        back = λ x z. cond (stops_one x z) None (i.back x z);
+      }
