@@ -173,7 +173,7 @@ class Session:
         self.lines.append(line)
         accepted = self.server.answer(line).startswith(b"00")
         if accepted and line[:2].upper() == b"A0":
-            self.draws = draws_over(self.random, self.system)
+            self.draws = draws_over(self.random, self.system.bottom)
         if accepted and line[:2].upper() in (b"B0", b"B1", b"B2", b"B4"):
             self.homes[int(line[2:4], 16)] = self.draws
         return accepted
