@@ -14,11 +14,11 @@ from dataclasses import dataclass
 from pathlib import Path
 
 from generate import generate
-from sheetbench import Server, split_lines
-from tally import Tally, answer_with_names
+from sheetbench import split_lines
+from tally import Tally, Watch
 
 DEFAULT_SEEDS = tuple(range(1, 17))
-DEFAULT_FRAMES = 5000
+DEFAULT_FRAMES = 6000
 PROGRAM_SECONDS = 60
 SHOWN = 300
 
@@ -86,14 +86,14 @@ def shorten(data: bytes) -> str:
 def compare_session(program: Path | None, name: str, data: bytes, tally: Tally) -> tuple[int, bool]:
     """The number of frames answered alike, and whether all is well."""
     lines = split_lines(data)
-    server = Server()
-    answered = [answer_with_names(server, line) for line in lines]
+    watch = Watch()
+    answered = [watch.answer(line) for line in lines]
     answers = [answer for answer, _ in answered]
     output, ending = run_program(program, data) if program else (b"".join(answers), "")
     difference = first_difference(lines, answers, output)
     passed = difference.frame if difference else len(lines)
-    for line, (answer, names) in zip(lines[:passed], answered):
-        tally.count(line, answer, names)
+    for answer, names in answered[:passed]:
+        tally.count(answer, names)
     if difference:
         print(f"{name}, frame {difference.frame} (from 0)")
         print(f"frame:   {shorten(difference.line)}")
@@ -111,7 +111,7 @@ def sessions(seeds: list[int], frames: int) -> Iterator[tuple[str, bytes]]:
         yield f"seed {seed}", generate(seed, frames)
 
 
-def compare(program: Path | None, seeds: list[int], frames: int) -> bool:
+def compare(program: Path | None, seeds: list[int], frames: int, everything: bool) -> bool:
     tally = Tally()
     passed = 0
     for name, data in sessions(seeds, frames):
@@ -120,7 +120,7 @@ def compare(program: Path | None, seeds: list[int], frames: int) -> bool:
         if not well:
             print(f"{passed} passed, 1 failed")
             return False
-    tally.show()
+    tally.show(everything)
     lacks = list(tally.lacks())
     for lack in lacks:
         print(lack)
@@ -137,9 +137,10 @@ def main() -> int:
     parser.add_argument("program", type=Path, nargs="?", metavar="PROGRAM")
     parser.add_argument("--frames", type=int, default=DEFAULT_FRAMES, metavar="N", help="frames for each seed")
     parser.add_argument("--seeds", type=seed_list, default=list(DEFAULT_SEEDS), metavar="A,B,..")
+    parser.add_argument("--all", action="store_true", help="tell of all things how often they happened")
     arguments = parser.parse_args()
     program = arguments.program.resolve() if arguments.program else None
-    return 0 if compare(program, arguments.seeds, arguments.frames) else 1
+    return 0 if compare(program, arguments.seeds, arguments.frames, arguments.all) else 1
 
 
 if __name__ == "__main__":

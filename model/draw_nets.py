@@ -7,13 +7,16 @@ from dataclasses import replace
 from random import Random
 from typing import Any
 
-from drawing import NO_ACTIONS, Draws, frame_of_setup, random_action
+from drawing import NO_ACTIONS, Draws, Layers, frame_of_setup, random_action
 from nets import CONDITIONS, EVENT_BYTES, SET_BYTES, Event, Marking, Net, encode_set
 from sheetbench import KIND_NET, MOST_EVENTS, MOST_FRAME_BYTES, MOST_STEPS
+from systems import name_of
+
+MOST_EVENTS_IN_A_FRAME = (MOST_FRAME_BYTES - 5) // EVENT_BYTES
 
 
-def setup_frame(events: list[Event], pairs: bytes = b"", masked: bytes = b"") -> bytes:
-    return frame_of_setup(KIND_NET, [event.encode() for event in events], pairs, masked)
+def setup_frame(events: list[Event], layers: Layers = Layers()) -> bytes:
+    return frame_of_setup(KIND_NET, [event.encode() for event in events], layers)
 
 
 # Nets
@@ -194,35 +197,17 @@ ALTERATIONS = {
 STOPPING_ALTERATIONS = (cut_off, replace_sets, reverse_event, widen_event)
 
 
-# Setups that are refused
+# Events of which setups are refused
 
 
-def wrong_kind(random: Random, events: list[Event]) -> bytes:
-    frame = bytearray(setup_frame(events))
-    frame[1] = random.choice((0x00, 0x03, 0x04, 0x81, 0x82, random.randrange(3, 256)))
-    if random.random() < 0.5:
-        del frame[random.randrange(2, len(frame) + 1) :]
-    elif random.random() < 0.5:
-        frame += random.randbytes(random.randrange(1, 30))
-    return bytes(frame)
-
-
-def some_pairs(random: Random, events: list[Event]) -> bytes:
-    pairs = random.randbytes(2 * random.choice((1, 2, 3, 50)))
-    masked = random.randbytes(random.choice((0, 0, 1, 4)))
-    return setup_frame(events[:20], pairs, masked)
-
-
-def some_masked(random: Random, events: list[Event]) -> bytes:
-    return setup_frame(events[:20], masked=random.randbytes(random.choice((1, 2, 3, 100, 255))))
-
-
-def too_many_events(random: Random, events: list[Event]) -> bytes:
-    most = (MOST_FRAME_BYTES - 5) // EVENT_BYTES
+def too_many_events(random: Random, events: list[Event]) -> list[Event]:
+    most = MOST_EVENTS_IN_A_FRAME
     count = random.choice((MOST_EVENTS + 1, most, random.randrange(MOST_EVENTS + 1, most + 1)))
     while len(events) < count:
         events = events + tangled_net(random)
-    return setup_frame(events[:count])
+    if random.random() < 0.3:
+        events[random.randrange(count)] = spoil_event(random, events[0])
+    return events[:count]
 
 
 def spoil_event(random: Random, event: Event) -> Event:
@@ -242,68 +227,43 @@ def spoil_event(random: Random, event: Event) -> Event:
     ))
 
 
-def bad_events(random: Random, events: list[Event]) -> bytes:
+def bad_events(random: Random, events: list[Event]) -> list[Event]:
     """One or several events that break rules."""
     events = list(events) or tangled_net(random)
     for index in random.sample(range(len(events)), min(len(events), random.choice((1, 1, 2, 3)))):
         events[index] = spoil_event(random, events[index])
-    return setup_frame(events)
-
-
-def several_rules(random: Random, events: list[Event]) -> bytes:
-    """More than one rule broken, in different parts of the frame."""
-    spoiled = [spoil_event(random, event) for event in events[:3] or tangled_net(random)[:3]]
-    pairs = random.randbytes(2 * random.choice((0, 1)))
-    masked = random.randbytes(random.choice((0, 1)))
-    return setup_frame(spoiled, pairs, masked)
-
-
-def wrong_layout(random: Random, events: list[Event]) -> bytes:
-    """Missing or extra bytes, perhaps with a broken rule as well."""
-    frame = random.choice((some_pairs, some_masked, bad_events, several_rules))(random, events)
-    if random.random() < 0.3:
-        frame = setup_frame(events)
-    if random.random() < 0.6:
-        return frame[: random.randrange(1, len(frame))]
-    return frame + random.randbytes(random.choice((1, 1, 2, EVENT_BYTES)))
-
-
-def wrong_count(random: Random, events: list[Event]) -> bytes:
-    """The count of events is not that of the events that follow."""
-    frame = bytearray(setup_frame(events))
-    frame[4] = random.choice((0, max(0, len(events) - 1), len(events) + 1, 0x80, 0xFF))
-    return bytes(frame)
-
-
-BAD_SETUPS = (
-    wrong_kind,
-    some_pairs,
-    some_masked,
-    too_many_events,
-    bad_events,
-    bad_events,
-    several_rules,
-    wrong_layout,
-    wrong_layout,
-    wrong_count,
-)
-
-
-def too_many_events_net(random: Random) -> list[Event]:
-    """The most events that a frame can carry; more than are allowed."""
-    return (full_net(random) + full_net(random))[: (MOST_FRAME_BYTES - 5) // EVENT_BYTES]
+    return events
 
 
 # Over a net
 
 
 class NetDraws(Draws[Net]):
+    kind = KIND_NET
+
     @property
     def events(self) -> list[Event]:
         return list(self.system.events)
 
-    def setup(self) -> bytes:
-        return setup_frame(self.events)
+    def with_events(self, events: list[Event]) -> NetDraws:
+        """Another net under the same layers."""
+        return NetDraws(self.random, Net(events), self.layers)
+
+    def rows(self) -> list[bytes]:
+        return [event.encode() for event in self.events]
+
+    def bad_rows(self) -> list[bytes]:
+        events = random_net(self.random) if self.random.random() < 0.5 else self.events
+        bad = self.random.choice((bad_events, bad_events, too_many_events))(self.random, events)
+        return [event.encode() for event in bad]
+
+    def names(self) -> list[int]:
+        names = {name_of(event.action) for event in self.events}
+        return sorted(name for name in names if name is not None)
+
+    def hidden_step(self) -> bytes | None:
+        hidden = [i for i, event in enumerate(self.events) if self.layers.hides(event.action)]
+        return bytes([self.random.choice(hidden)]) if hidden else None
 
     def good_state(self) -> bytes:
         random = self.random
@@ -356,8 +316,4 @@ class NetDraws(Draws[Net]):
         if aim >= len(self.events):
             aim = random.randrange(len(self.events))
         alteration = random.choices(list(ALTERATIONS), list(ALTERATIONS.values()))[0]
-        return NetDraws(random, Net(alteration(random, self.events, aim)))
-
-    def bad_setup(self) -> bytes:
-        events = self.events if self.random.random() < 0.5 else random_net(self.random)
-        return self.random.choice(BAD_SETUPS)(self.random, events)
+        return self.with_events(alteration(random, self.events, aim))

@@ -7,12 +7,10 @@ from functools import reduce
 from random import Random
 from typing import Any
 
-from drawing import NO_ACTIONS, Draws, frame_of_setup, random_action
+from drawing import NO_ACTIONS, Draws, Layers, frame_of_setup, random_action
 from sheetbench import KIND_TERMS, MOST_DEFINITIONS, MOST_FRAME_BYTES
-from systems import MOST_STATE_BYTES, MOST_STEP_BYTES
+from systems import CO, MOST_STATE_BYTES, MOST_STEP_BYTES, SILENT, name_of
 from terms import (
-    CO,
-    SILENT,
     Act,
     Both,
     Call,
@@ -34,7 +32,6 @@ from terms import (
     decode_proof,
     is_improper,
     label,
-    name_of,
 )
 
 MOST_BODY_BYTES = 255
@@ -42,8 +39,12 @@ MOST_BODY_BYTES = 255
 ONE_PART = (OnLeft, OnRight, ChooseLeft, ChooseRight)
 
 
-def setup_frame(bodies: Sequence[bytes], pairs: bytes = b"", masked: bytes = b"") -> bytes:
-    return frame_of_setup(KIND_TERMS, [bytes([len(body)]) + body for body in bodies], pairs, masked)
+def with_length(body: bytes) -> bytes:
+    return bytes([len(body)]) + body
+
+
+def setup_frame(bodies: Sequence[bytes], layers: Layers = Layers()) -> bytes:
+    return frame_of_setup(KIND_TERMS, [with_length(body) for body in bodies], layers)
 
 
 def co(action: int) -> int:
@@ -391,26 +392,21 @@ def near_limit(random: Random, limit: int, begin: Callable[[], bytes], end: byte
     return bytes(data[: MOST_FRAME_BYTES - 2])
 
 
-# Setups that are refused
+# Definitions of which setups are refused
 
 
-def wrong_count(random: Random, bodies: list[bytes]) -> bytes:
-    frame = bytearray(setup_frame(bodies))
-    frame[4] = random.choice((0, max(0, len(bodies) - 1), len(bodies) + 1, 0x80, 0xFF))
-    return bytes(frame)
-
-
-def wrong_length(random: Random, bodies: list[bytes]) -> bytes:
+def wrong_length(random: Random, bodies: list[bytes]) -> list[bytes]:
     """A body's length is not that of the body, so what follows is read otherwise."""
-    frame = bytearray(setup_frame(bodies or [b"\x00"]))
-    frame[5] = max(0, min(255, frame[5] + random.choice((-2, -1, -1, 1, 1, 2))))
-    return bytes(frame)
+    first, *rest = [with_length(body) for body in bodies or [b"\x00"]]
+    length = max(0, min(MOST_BODY_BYTES, first[0] + random.choice((-2, -1, -1, 1, 1, 2))))
+    return [bytes([length]) + first[1:], *rest]
 
 
-def too_many_definitions(random: Random, bodies: list[bytes]) -> bytes:
+def too_many_definitions(random: Random, bodies: list[bytes]) -> list[bytes]:
     count = random.choice((MOST_DEFINITIONS + 1, MOST_DEFINITIONS + 2, 100, 255))
     short = [body for body in bodies if len(body) < 4][:MOST_DEFINITIONS]
-    return setup_frame((short + [b"\x00"] * count)[:count])
+    others = random.choice(([b"\x00"], [b"\x00", b"\x06"]))
+    return [with_length(body) for body in (short + random.choices(others, k=count))[:count]]
 
 
 def bad_body(random: Random, body: bytes, count: int) -> bytes:
@@ -428,46 +424,39 @@ def bad_body(random: Random, body: bytes, count: int) -> bytes:
     return spoil_bytes(random, body, alphabet)[:MOST_BODY_BYTES]
 
 
-def bad_bodies(random: Random, bodies: list[bytes]) -> bytes:
+def bad_bodies(random: Random, bodies: list[bytes]) -> list[bytes]:
     bodies = list(bodies) or [b"\x00"]
     for index in random.sample(range(len(bodies)), min(len(bodies), random.choice((1, 1, 2)))):
         bodies[index] = bad_body(random, bodies[index], len(bodies))
-    return setup_frame(bodies)
+    return [with_length(body) for body in bodies]
 
 
-def several_rules(random: Random, bodies: list[bytes]) -> bytes:
-    pairs = random.randbytes(2 * random.choice((0, 1, 2)))
-    masked = random.randbytes(random.choice((0, 1, 3)))
-    spoiled = [bad_body(random, body, len(bodies)) if random.random() < 0.3 else body for body in bodies]
-    return setup_frame(spoiled, pairs, masked)
+BAD_ROWS = (wrong_length, too_many_definitions, bad_bodies, bad_bodies, bad_bodies)
 
 
-def wrong_layout(random: Random, bodies: list[bytes]) -> bytes:
-    """Missing or extra bytes, perhaps with a broken rule as well."""
-    frame = random.choice((several_rules, bad_bodies, lambda _, good: setup_frame(good)))(random, bodies)
-    if random.random() < 0.6:
-        return frame[: random.randrange(1, len(frame))]
-    return frame + random.randbytes(random.choice((1, 1, 2, 20)))
-
-
-BAD_SETUPS = (
-    wrong_count,
-    wrong_length,
-    too_many_definitions,
-    bad_bodies,
-    bad_bodies,
-    bad_bodies,
-    several_rules,
-    wrong_layout,
-)
+def prefix_names(term: Term) -> set[int]:
+    """The names of the actions in a term."""
+    match term:
+        case Prefix(action, then):
+            name = name_of(action)
+            return prefix_names(then) | (set() if name is None else {name})
+        case Parallel(left, right) | Sum(left, right):
+            return prefix_names(left) | prefix_names(right)
+        case Restriction(_, inner):
+            return prefix_names(inner)
+    return set()
 
 
 # Over terms
 
 
 class TermDraws(Draws[Terms]):
-    def __init__(self, random: Random, system: Terms, start: Term | None = None) -> None:
-        super().__init__(random, system)
+    kind = KIND_TERMS
+
+    def __init__(
+        self, random: Random, system: Terms, start: Term | None = None, layers: Layers = Layers()
+    ) -> None:
+        super().__init__(random, system, layers)
         self.start = start
         self.maker = TermMaker(random, len(system.bodies))
 
@@ -475,8 +464,27 @@ class TermDraws(Draws[Terms]):
     def bodies(self) -> list[bytes]:
         return [body.encoded for body in self.system.bodies]
 
-    def setup(self) -> bytes:
-        return setup_frame(self.bodies)
+    def with_bodies(self, bodies: list[Term]) -> TermDraws:
+        """Other definitions under the same layers."""
+        return TermDraws(self.random, Terms(bodies), self.start, self.layers)
+
+    def rows(self) -> list[bytes]:
+        return [with_length(body) for body in self.bodies]
+
+    def bad_rows(self) -> list[bytes]:
+        bodies = random_terms(self.random).bodies if self.random.random() < 0.5 else self.bodies
+        return self.random.choice(BAD_ROWS)(self.random, bodies)
+
+    def names(self) -> list[int]:
+        shown = [*self.system.bodies, *([self.start] if self.start else [])]
+        return sorted(set(self.maker.names).union(*map(prefix_names, shown)))
+
+    def hidden_step(self) -> bytes | None:
+        names = self.layers.hidden_names()
+        if not names:
+            return None
+        action = self.random.choice(names) + self.random.choice((0, CO))
+        return behind(outer_nodes(self.random, self.random.choice((0, 0, 1, 2))), Act(action)).encoded
 
     def within(self, draw: Callable[[], Term]) -> bytes:
         """A term that is not too long."""
@@ -596,8 +604,8 @@ class TermDraws(Draws[Terms]):
             bodies[index] = self.longer(bodies[index])
         else:
             random.shuffle(bodies)
-        fits = len(setup_frame([body.encoded for body in bodies])) <= MOST_FRAME_BYTES
-        return TermDraws(random, Terms(bodies), self.start) if fits else None
+        found = self.with_bodies(bodies)
+        return found if len(found.setup()) <= MOST_FRAME_BYTES else None
 
     def cut(self, bodies: list[Term], count: int) -> list[Term]:
         """The first so many bodies, those of them left out that call others."""
@@ -638,12 +646,6 @@ class TermDraws(Draws[Terms]):
             case Restriction(name, inner):
                 return Restriction(name, self.with_last(inner, last))
         return last
-
-    def bad_setup(self) -> bytes:
-        bodies = self.bodies
-        if self.random.random() < 0.5:
-            bodies = random_terms(self.random).bodies
-        return self.random.choice(BAD_SETUPS)(self.random, bodies)[: MOST_FRAME_BYTES + 1]
 
 
 # States and systems for both kinds

@@ -3,21 +3,58 @@
 from __future__ import annotations
 
 from abc import ABC, abstractmethod
+from collections.abc import Mapping
+from copy import copy
+from dataclasses import dataclass
 from random import Random
-from typing import Any, Generic, TypeVar
+from typing import Any, Generic, Self, TypeVar
 
-from systems import System
+from layers import Mask, Renaming
+from systems import CO, System, name_of
 
-SETUP, OPEN, ADD, SWAP, WITHDRAW, JOIN, RELEASE, REOPEN, PRINT = 0xA0, *range(0xB0, 0xB8)
-CALLS = (SETUP, OPEN, ADD, SWAP, WITHDRAW, JOIN, RELEASE, REOPEN, PRINT)
+SETUP, OPEN, ADD, SWAP, WITHDRAW, JOIN, RELEASE, REOPEN, PRINT, LOOK = 0xA0, *range(0xB0, 0xB8), 0xB9
+CALLS = (SETUP, OPEN, ADD, SWAP, WITHDRAW, JOIN, RELEASE, REOPEN, PRINT, LOOK)
 NO_ACTIONS = (0x40, 0x80, 0x81, 0xBF, 0xC1, 0xFF)
 
 Y = TypeVar("Y", bound=System[Any, Any])
 
 
-def frame_of_setup(kind: int, parts: list[bytes], pairs: bytes = b"", masked: bytes = b"") -> bytes:
-    head = bytes([SETUP, kind, len(pairs) // 2]) + pairs + bytes([len(masked)]) + masked
-    return head + bytes([len(parts)]) + b"".join(parts)
+@dataclass(frozen=True)
+class Layers:
+    """Pairs of names, and masked names, as a setup has them."""
+
+    pairs: bytes = b""
+    masked: bytes = b""
+
+    @property
+    def renamed(self) -> Mapping[int, int]:
+        return dict(zip(self.pairs[::2], self.pairs[1::2]))
+
+    def shown(self, action: int) -> int | None:
+        """The name that the mask sees for an action."""
+        name = name_of(action)
+        return None if name is None else self.renamed.get(name, name)
+
+    def hides(self, action: int) -> bool:
+        return self.shown(action) in set(self.masked)
+
+    def hidden_names(self) -> list[int]:
+        """The names of the system's own labels that the mask hides."""
+        return [name for name in range(1, CO) if self.hides(name)]
+
+
+def layers_of(system: Mask[Any, Any]) -> Layers:
+    """The layers of a system as a setup has made it."""
+    renaming = system.inner
+    assert isinstance(renaming, Renaming)
+    return Layers(bytes(byte for pair in renaming.pairs.items() for byte in pair), bytes(system.names))
+
+
+def frame_of_setup(kind: int, rows: list[bytes], layers: Layers = Layers()) -> bytes:
+    """The setup with these layers and definitions with their lengths, or events."""
+    pairs = bytes([len(layers.pairs) // 2]) + layers.pairs
+    masked = bytes([len(layers.masked)]) + layers.masked
+    return bytes([SETUP, kind]) + pairs + masked + bytes([len(rows)]) + b"".join(rows)
 
 
 def random_action(random: Random) -> int:
@@ -30,13 +67,38 @@ def random_action(random: Random) -> int:
 class Draws(ABC, Generic[Y]):
     """A system, and what is drawn over it."""
 
-    def __init__(self, random: Random, system: Y) -> None:
+    kind: int
+
+    def __init__(self, random: Random, system: Y, layers: Layers = Layers()) -> None:
         self.random = random
         self.system = system
+        self.layers = layers
 
-    @abstractmethod
+    def under(self, layers: Layers) -> Self:
+        """The same under other layers."""
+        found = copy(self)
+        found.layers = layers
+        return found
+
     def setup(self) -> bytes:
         """The frame that sets the system up."""
+        return frame_of_setup(self.kind, self.rows(), self.layers)
+
+    @abstractmethod
+    def rows(self) -> list[bytes]:
+        """The definitions with their lengths, or the events."""
+
+    @abstractmethod
+    def bad_rows(self) -> list[bytes]:
+        """The same, mostly with a fault."""
+
+    @abstractmethod
+    def names(self) -> list[int]:
+        """Names that steps of the system have."""
+
+    @abstractmethod
+    def hidden_step(self) -> bytes | None:
+        """A step that the mask hides, if there is one, possible or not."""
 
     @abstractmethod
     def good_state(self) -> bytes:
@@ -70,7 +132,3 @@ class Draws(ABC, Generic[Y]):
     @abstractmethod
     def altered(self, start: bytes, steps: list[bytes]) -> Draws[Y] | None:
         """The system changed in a way that may stop the replay of a sheet; None where it cannot be."""
-
-    @abstractmethod
-    def bad_setup(self) -> bytes:
-        """A setup frame, mostly of this system, that is refused."""

@@ -11,8 +11,19 @@ import argparse
 import sys
 from collections.abc import Callable
 from random import Random
-from typing import Any
+from typing import Any, TypeVar
 
+from draw_layers import (
+    NAMES,
+    altered_layers,
+    bad_setup,
+    chained,
+    hide,
+    pairs_between,
+    random_layers,
+    rename,
+    rename_to_masked,
+)
 from draw_nets import (
     STOPPING_ALTERATIONS,
     NetDraws,
@@ -25,10 +36,11 @@ from draw_nets import (
     rings_net,
     tangled_net,
     tokens_net,
-    too_many_events_net,
+    too_many_events,
 )
 from draw_nets import setup_frame as net_setup
 from draw_terms import (
+    Family,
     TermDraws,
     behind,
     chain,
@@ -42,17 +54,47 @@ from draw_terms import (
     random_terms,
     term_of_a_marking,
 )
-from drawing import ADD, CALLS, JOIN, OPEN, PRINT, RELEASE, REOPEN, SETUP, SWAP, WITHDRAW, Draws, random_action
+from draw_terms import setup_frame as terms_setup
+from drawing import (
+    ADD,
+    CALLS,
+    JOIN,
+    LOOK,
+    OPEN,
+    PRINT,
+    RELEASE,
+    REOPEN,
+    SETUP,
+    SWAP,
+    WITHDRAW,
+    Draws,
+    Layers,
+    layers_of,
+    random_action,
+)
+from layers import Mask
 from nets import CONDITIONS, Event, Net, decode_set, encode_set
-from sheetbench import KIND_TERMS, MOST_DEFINITIONS, MOST_FRAME_BYTES, MOST_STEPS, SHEETS, Server, Sheet, Standing
-from systems import MOST_STATE_BYTES, MOST_STEP_BYTES, Refusal, System
+from sheetbench import (
+    KIND_TERMS,
+    MOST_DEFINITIONS,
+    MOST_FRAME_BYTES,
+    MOST_MASKED,
+    MOST_PAIRS,
+    MOST_STEPS,
+    SHEETS,
+    Server,
+    Sheet,
+    Standing,
+)
+from systems import CO, MOST_STATE_BYTES, MOST_STEP_BYTES, SILENT, Refusal, name_of
 from terms import Act, Call, ChooseLeft, ChooseRight, Nil, OnLeft, OnRight, Parallel, Prefix, Sum, Terms
 
-REPLAYING_CALLS = (ADD, SWAP, WITHDRAW, JOIN, RELEASE, REOPEN, PRINT)
-NO_CALLS = (0x00, 0x9F, 0xA1, 0xAF, 0xB8, 0xB9, 0xBA, 0xC0, 0xFF)
+REPLAYING_CALLS = (ADD, SWAP, WITHDRAW, JOIN, RELEASE, REOPEN, PRINT, LOOK)
+NO_CALLS = (0x00, 0x9F, 0xA1, 0xAF, 0xB8, 0xBA, 0xC0, 0xFF)
 DIGITS = b"0123456789ABCDEF"
 # Neighbours of the digits in ASCII, blanks, and bytes outside ASCII.
 NO_DIGITS = (b"G", b"g", b"/", b":", b"@", b"`", b" ", b"\r", b"\t", b"x", b"-", b"\0", b"\x7f", b"\xc3", b"\xff")
+EDGE_BYTES = (b"00", b"01", b"02", b"03", b"04", b"08", b"09", b"3F", b"40", b"41", b"7F", b"80", b"FF")
 MOST_DIGITS = 2 * MOST_FRAME_BYTES
 
 
@@ -62,7 +104,10 @@ def call_needs(call: int) -> tuple[Standing, ...]:
         return (Standing.BLANK, Standing.OPEN)
     if call in (REOPEN, PRINT):
         return (Standing.RELEASED,)
+    if call == LOOK:
+        return (Standing.OPEN, Standing.RELEASED)
     return (Standing.OPEN,)
+
 
 # Lines that are spoiled
 
@@ -90,6 +135,11 @@ def insert_byte(random: Random, line: bytes) -> bytes:
     return line[:place] + random_digits(random, 2) + line[place:]
 
 
+def double_byte(random: Random, line: bytes) -> bytes:
+    place = 2 * random.randrange(len(line) // 2)
+    return line[: place + 2] + line[place:]
+
+
 def append_bytes(random: Random, line: bytes) -> bytes:
     return line + random_digits(random, 2 * random.choice((1, 1, 2, 5)))
 
@@ -97,6 +147,12 @@ def append_bytes(random: Random, line: bytes) -> bytes:
 def flip_byte(random: Random, line: bytes) -> bytes:
     place = 2 * random.randrange(len(line) // 2)
     return line[:place] + random_digits(random, 2) + line[place + 2 :]
+
+
+def edge_byte(random: Random, line: bytes) -> bytes:
+    """A byte near the front becomes one at the ends of names, actions, counts or numbers of sheets."""
+    place = 2 * random.randrange(min(len(line) // 2, 24))
+    return line[:place] + random.choice(EDGE_BYTES) + line[place + 2 :]
 
 
 def bad_digit(random: Random, line: bytes) -> bytes:
@@ -124,7 +180,10 @@ MUTATIONS = (
     drop_byte,
     cut_line,
     insert_byte,
+    double_byte,
     append_bytes,
+    edge_byte,
+    edge_byte,
     flip_byte,
     flip_byte,
     bad_digit,
@@ -134,6 +193,9 @@ MUTATIONS = (
     odd_digits,
     mixed_case,
 )
+
+
+D = TypeVar("D", bound=Draws[Any])
 
 
 class Session:
@@ -150,7 +212,7 @@ class Session:
     # The state of the bench
 
     @property
-    def system(self) -> System[Any, Any]:
+    def system(self) -> Mask[Any, Any]:
         return self.server.bench.system
 
     def sheet(self, number: int) -> Sheet:
@@ -197,11 +259,30 @@ class Session:
     def possible_steps(self, number: int) -> list[bytes]:
         """Steps that are possible at the end of a sheet: all, or some of many."""
         end = self.end(number)
-        return [] if end is None else self.draws.possible_steps(end)
+        return [] if end is None else [step for step in self.draws.possible_steps(end) if self.is_shown(step)]
 
     def possible_step(self, number: int) -> bytes | None:
         end = self.end(number)
-        return None if end is None else self.draws.possible_step(end)
+        for _ in range(0 if end is None else 4):
+            step = self.draws.possible_step(end)
+            if step is None or self.is_shown(step):
+                return step
+        return None
+
+    def is_shown(self, step: bytes) -> bool:
+        return not self.system.is_masked(self.system.step(step))
+
+    def labels(self, number: int) -> list[int]:
+        """The system's own labels of the steps of a sheet, as far as it replays."""
+        try:
+            return [self.system.bottom.label(step) for step in self.system.given(*self.sheet(number).steps)]
+        except Refusal:
+            return []
+
+    def names(self, number: int) -> list[int]:
+        """The names of the system's own labels on a sheet; where there are none, others."""
+        found = [name for name in map(name_of, self.labels(number)) if name is not None]
+        return found or self.draws.names() or [0x01]
 
     def some_step(self, number: int) -> bytes:
         """A step for this sheet, possible or not."""
@@ -235,7 +316,7 @@ class Session:
 
     def likely_frame(self) -> bytes:
         """A frame of any call that may well be accepted."""
-        call = self.random.choice(CALLS)
+        call = self.random.choice((*CALLS, SETUP, SETUP))
         if call == SETUP:
             return (self.draws if self.random.random() < 0.7 else self.any_system()).setup()
         number = self.sheet_for(call)
@@ -248,6 +329,8 @@ class Session:
             return head + bytes([self.some_place(number)])
         if call == JOIN:
             return head + bytes([self.any_sheet()])
+        if call == LOOK:
+            return head + bytes([self.some_count(number)])
         return head
 
     # Moves of good sense
@@ -260,14 +343,23 @@ class Session:
         """A new system of either kind."""
         # most of what is only over one kind is over terms
         if self.random.random() < 0.35:
-            return random_terms(self.random)
+            return self.terms_like()
         return self.net_of(random_net(self.random))
 
-    def net_of(self, events: list[Event]) -> NetDraws:
-        return NetDraws(self.random, Net(events))
+    def dressed(self, draws: D) -> D:
+        """The system, often under layers."""
+        if self.random.random() < 0.55:
+            return draws
+        return draws.under(random_layers(self.random, draws.names()))
 
-    def terms_of(self, bodies: list[Any], start: Any = None) -> TermDraws:
-        return TermDraws(self.random, Terms(bodies), start)
+    def net_of(self, events: list[Event]) -> NetDraws:
+        return self.dressed(NetDraws(self.random, Net(events)))
+
+    def terms_of(self, bodies: list[Any]) -> TermDraws:
+        return self.dressed(TermDraws(self.random, Terms(bodies)))
+
+    def terms_like(self, family: Callable[[Random], Family] | None = None) -> TermDraws:
+        return self.dressed(random_terms(self.random, family))
 
     def free(self, number: int) -> None:
         """Reopens a released sheet, in a system where it replays."""
@@ -295,13 +387,18 @@ class Session:
         old = self.draws
         used = [n for n in range(SHEETS) if self.sheet(n).steps]
         number = random.choice(used) if used else self.any_sheet()
-        altered = old.altered(self.sheet(number).start, self.sheet(number).steps)
+        if random.random() < 0.45:
+            altered = old.under(altered_layers(random, old.layers, self.names(number)))
+        else:
+            altered = old.altered(self.sheet(number).start, self.sheet(number).steps)
         if altered is None:
             self.new_system()
             return
+        if random.random() < 0.1:
+            altered = altered.under(altered_layers(random, old.layers, self.names(number)))
         self.send_setup(altered)
         for _ in range(random.randrange(1, 7)):
-            self.probe(number if random.random() < 0.4 else None)
+            self.probe(number if used and random.random() < 0.4 else None)
         if random.random() < 0.8:
             self.send_setup(old)
 
@@ -339,12 +436,18 @@ class Session:
         holding = set(decode_set(marking))
         return holding, set(range(CONDITIONS)) - holding
 
+    def hidden(self, draws: D, action: int) -> D:
+        """The system under a mask that hides this one of its own labels, if it has a name."""
+        name = name_of(action)
+        return draws if name is None else draws.under(hide(self.random, draws.layers, [name]))
+
     def stop_at_depth(self) -> None:
         """A long run, and nets that stop its replay at different steps."""
         random = self.random
         self.settle()
         events = long_ring_net(random)
-        self.send_setup(self.net_of(events))
+        whole = self.net_of(events)
+        self.send_setup(whole)
         number = self.any_sheet()
         self.send(OPEN, number, encode_set(events[0].before))
         length = random.choice((MOST_STEPS, MOST_STEPS, random.randrange(1, MOST_STEPS + 1)))
@@ -353,17 +456,21 @@ class Session:
         if random.random() < 0.5:
             self.send(RELEASE, number)
         for index in (length - 1, random.randrange(length), random.randrange(length)):
-            self.send_setup(self.net_of(random.choice(STOPPING_ALTERATIONS)(random, events, index)))
+            altered = whole.with_events(random.choice(STOPPING_ALTERATIONS)(random, events, index))
+            hidden = self.hidden(whole, events[index].action)
+            both = self.hidden(altered, events[random.choice((index, random.randrange(length)))].action)
+            self.send_setup(random.choice((altered, altered, hidden, hidden, both, both)))
             self.probe(number)
             self.probe(number)
-        self.send_setup(self.net_of(events))
+        self.send_setup(whole)
         self.probe(number)
 
     def stop_terms_at_depth(self) -> None:
         """A long run through all definitions, and others that stop its replay at different steps."""
         random = self.random
         self.settle()
-        actions = [random_action(random) for _ in range(MOST_STEPS)]
+        names = random.sample(NAMES, MOST_STEPS)
+        actions = [random.choice((name, CO + name)) if random.random() < 0.95 else SILENT for name in names]
 
         def bodies(changed: int = -1, tail: Any = None) -> list[Any]:
             """Definitions of two actions each; one changed, or with another term behind it."""
@@ -379,7 +486,7 @@ class Session:
         whole = self.terms_of(bodies())
         self.send_setup(whole)
         number = self.any_sheet()
-        beside = filler(random.choice((1, 39)))
+        beside = filler(random.choice((1, 39, 61)))
         self.send(OPEN, number, Parallel(Call(0), beside).encoded)
         length = random.choice((MOST_STEPS, MOST_STEPS, random.randrange(1, MOST_STEPS + 1)))
         for action in actions[:length]:
@@ -387,10 +494,12 @@ class Session:
         if random.random() < 0.5:
             self.send(RELEASE, number)
         for place in (length - 1, random.randrange(length), random.randrange(length)):
-            long = filler(random.choice((200, 230, 240))) if random.random() < 0.6 else None
-            self.send_setup(self.terms_of(bodies(place, long)))
-            self.probe(number)
-            self.probe(number)
+            long = filler(random.choice((200, 240, 250))) if random.random() < 0.6 else None
+            altered = whole.with_bodies(bodies(place, long))
+            hidden = self.hidden(random.choice((altered, whole)), actions[place - place % 2 if long else place])
+            self.send_setup(random.choice((altered, altered, altered, hidden)))
+            for _ in range(4):
+                self.probe(number)
         self.send_setup(whole)
         self.probe(number)
 
@@ -409,6 +518,8 @@ class Session:
             self.send(call, number, step)
         elif call == SWAP:
             self.send(call, number, self.some_place(number))
+        elif call == LOOK:
+            self.send(call, number, self.some_count(number))
         elif call == JOIN and self.random.random() < 0.5:
             self.send(call, self.sheet_for(call), number)
         elif call == JOIN:
@@ -443,13 +554,16 @@ class Session:
     def overfill(self, number: int, step: bytes) -> None:
         """Adds to a full sheet a step that is possible, impossible or none."""
         self.send(ADD, number, step)
-        self.send(ADD, number, self.random.choice((self.some_step(number), self.draws.wrong_step())))
+        hidden = self.draws.hidden_step()
+        others = (self.some_step(number), self.draws.wrong_step())
+        self.send(ADD, number, hidden or self.random.choice(others))
         if self.random.random() < 0.5:
             self.send(WITHDRAW, number)
             self.send(ADD, number, self.possible_step(number) or step)
         if self.random.random() < 0.5:
             self.send(RELEASE, number)
             self.send(PRINT, number)
+        self.send(LOOK, number, self.some_count(number))
 
     def add_some(self) -> None:
         number = self.sheet_for(ADD)
@@ -478,6 +592,51 @@ class Session:
 
     def reopen(self) -> None:
         self.send(REOPEN, self.sheet_for(REOPEN))
+
+    # Looks and layers
+
+    def some_count(self, number: int) -> int:
+        """A number of steps to look at: none, some, all, or more than there are."""
+        length = len(self.sheet(number).steps) if number < SHEETS else 0
+        inside = self.random.randrange(length + 1)
+        return self.random.choice((0, inside, inside, length, length + 1, 0xFF, self.random.randrange(length, 256)))
+
+    def look(self) -> None:
+        number = self.with_steps(LOOK, least=self.random.choice((0, 1, 2, MOST_STEPS)))
+        for _ in range(self.random.choice((1, 2, 4))):
+            self.send(LOOK, number, self.some_count(number))
+
+    def add_hidden(self) -> None:
+        """Masks a name of what may come next, or nearly, and adds steps that have it, possible or not, and others."""
+        number = self.sheet_for(ADD)
+        step = self.possible_step(number)
+        old = self.draws
+        name = name_of(self.system.bottom.label(self.system.step(step))) if step is not None else None
+        if name is not None:
+            layers = self.random.choice((hide, hide, chained, rename_to_masked))(self.random, old.layers, [name])
+            self.send_setup(old.under(layers))
+        for added in (step, self.draws.hidden_step(), self.possible_step(number)):
+            if added is not None:
+                self.send(ADD, number, added)
+        if self.random.random() < 0.7:
+            self.send_setup(old)
+
+    def relabel(self) -> None:
+        """Prints a sheet under one renaming after another."""
+        number = self.with_steps(LOOK, least=self.random.choice((1, 3)))
+        if self.sheet(number).standing is Standing.OPEN:
+            self.send(RELEASE, number)
+        old = self.draws
+        for _ in range(self.random.choice((1, 2))):
+            layers = self.draws.layers
+            for _ in range(self.random.choice((1, 1, 2, 4))):
+                layers = rename(self.random, layers, self.names(number))
+            self.send_setup(self.draws.under(layers))
+            self.send(PRINT, number)
+        if self.random.random() < 0.5:
+            self.send_setup(old)
+        if self.random.random() < 0.5:
+            self.send(REOPEN, number)
 
     # Swaps and joins
 
@@ -564,7 +723,7 @@ class Session:
         random = self.random
         if random.random() < 0.5:
             families = (chosen_terms, chosen_terms, chosen_terms, nested_terms, looping_terms, crowding_terms)
-            return random_terms(random, random.choice(families))
+            return self.terms_like(random.choice(families))
         return self.net_of(random.choice((rings_net, tokens_net, tokens_net, tangled_net))(random))
 
     def after_join(self, one: int, other: int) -> None:
@@ -715,13 +874,17 @@ class Session:
         number = self.any_sheet()
         self.free(number)
         if not isinstance(self.draws, TermDraws) or self.random.random() < 0.5:
-            self.send_setup(random_terms(self.random))
+            self.send_setup(self.terms_like())
         self.send(OPEN, number, self.draws.lively_state())
         return number
 
     def wrong_steps_over_terms(self) -> None:
         """Strings that are no proofs, improper proofs, and proofs that do not fit, or only in part."""
         number = self.over_terms()
+        if self.random.random() < 0.3:
+            self.send_setup(self.hidden(self.draws, 0x01))
+        elif self.random.random() < 0.5:
+            self.send_setup(self.draws.under(Layers(bytes([0x03, 0x01, 0x02, 0x01]))))
         for _ in range(self.random.choice((4, 8, 12))):
             wrong = self.random.random() < 0.7
             self.send(ADD, number, self.draws.wrong_step() if wrong else self.some_step(number))
@@ -753,7 +916,9 @@ class Session:
         """Steps that make a state long, and longer than it may be."""
         number = self.any_sheet()
         self.free(number)
-        self.send_setup(random_terms(self.random, self.random.choice((growing_terms, crowding_terms))))
+        self.send_setup(self.terms_like(self.random.choice((growing_terms, crowding_terms))))
+        if self.random.random() < 0.3:
+            self.send_setup(self.hidden(self.draws, 0x01))
         self.send(OPEN, number, self.draws.lively_state())
         self.send(ADD, number, OnLeft(Act(0x01)).encoded)
         self.add_possible(number, self.random.choice((1, 3, 6)))
@@ -781,6 +946,7 @@ class Session:
             self.send(JOIN, self.sheet_for(JOIN), number)
             self.send(JOIN, number, self.any_sheet())
             self.send(SWAP, number, 1)
+            self.send(LOOK, number, self.some_count(number))
 
     # Moves that are mostly refused
 
@@ -812,12 +978,19 @@ class Session:
             rest = bytes([self.random.randrange(MOST_STEPS)])
         elif call == JOIN:
             rest = bytes([self.any_sheet()])
+        elif call == LOOK:
+            rest = bytes([self.some_count(number)])
         extra = self.random.randbytes(1) if self.random.random() < 0.1 else b""
         self.send(call, number, rest, extra)
 
     def bad_setup(self) -> None:
         draws = self.draws if self.random.random() < 0.5 else self.any_system()
-        self.send(draws.bad_setup())
+        for _ in range(self.random.choice((2, 4, 6))):
+            self.send(bad_setup(self.random, draws))
+
+    def bare_call(self) -> None:
+        """A call with no more bytes, or with one or two that may be too few or too many."""
+        self.send(self.random.choice(CALLS), *self.random.choices(range(SHEETS), k=self.random.choice((0, 0, 1, 2))))
 
     def no_call(self) -> None:
         call = self.random.choice((*NO_CALLS, self.random.randrange(256)))
@@ -843,12 +1016,12 @@ class Session:
             bytes([SETUP, KIND_TERMS]),
             bytes([SETUP, 0x03]),
             bytes([random.choice(NO_CALLS)]),
-            net_setup(too_many_events_net(random), masked=random.randbytes(16)),
-            net_setup(full_net(random), masked=random.randbytes(203)),
-            net_setup(full_net(random)[:20], random.randbytes(510), random.randbytes(169)),
-            net_setup(too_many_events_net(random)),
+            net_setup(too_many_events(random, full_net(random)), Layers(masked=random.randbytes(8))),
+            net_setup(full_net(random), Layers(masked=random.randbytes(203))),
+            net_setup(full_net(random)[:20], Layers(random.randbytes(510), random.randbytes(169))),
             net_setup(full_net(random)),
-            self.terms_of([filler(255)] * 3 + [filler(250)]).setup(),
+            terms_setup([filler(255).encoded] * 3 + [filler(250).encoded]),
+            terms_setup([filler(255).encoded] * 3 + [filler(226).encoded], full_layers(random)),
         )
         head = random.choice(heads)
         self.send(head, random.randbytes(MOST_FRAME_BYTES - len(head)))
@@ -878,8 +1051,16 @@ class Session:
         self.send_line(random_digits(self.random, 200_000 + self.random.randrange(2)))
 
 
-def draws_over(random: Random, system: System[Any, Any]) -> Draws[Any]:
-    return NetDraws(random, system) if isinstance(system, Net) else TermDraws(random, system)
+def full_layers(random: Random) -> Layers:
+    """As many pairs and names as there may be."""
+    return Layers(pairs_between(random, (), MOST_PAIRS), bytes(random.choices(NAMES, k=MOST_MASKED)))
+
+
+def draws_over(random: Random, system: Mask[Any, Any]) -> Draws[Any]:
+    """Draws over a system as a setup has made it."""
+    bottom = system.bottom
+    draws = NetDraws(random, bottom) if isinstance(bottom, Net) else TermDraws(random, bottom)
+    return draws.under(layers_of(system))
 
 
 GOOD_MOVES: dict[Callable[[Session], None], int] = {
@@ -887,7 +1068,7 @@ GOOD_MOVES: dict[Callable[[Session], None], int] = {
     Session.alter_system: 70,
     Session.change_kind: 8,
     Session.stop_at_depth: 6,
-    Session.stop_terms_at_depth: 8,
+    Session.stop_terms_at_depth: 16,
     Session.mend: 40,
     Session.climb: 110,
     Session.add_some: 100,
@@ -895,6 +1076,9 @@ GOOD_MOVES: dict[Callable[[Session], None], int] = {
     Session.open: 30,
     Session.release: 60,
     Session.print: 50,
+    Session.look: 70,
+    Session.add_hidden: 40,
+    Session.relabel: 30,
     Session.reopen: 80,
     Session.probe: 60,
     Session.swap: 60,
@@ -906,7 +1090,7 @@ GOOD_MOVES: dict[Callable[[Session], None], int] = {
     Session.swap_long: 15,
     Session.grow_on_two_sheets: 15,
     Session.swap_to_a_long_state: 15,
-    Session.grow: 25,
+    Session.grow: 40,
     Session.deep_step: 12,
 }
 
@@ -918,7 +1102,8 @@ WRONG_MOVES: dict[Callable[[Session], None], int] = {
     Session.wrong_standing: 40,
     Session.no_sheet: 30,
     Session.join_in_vain: 30,
-    Session.bad_setup: 90,
+    Session.bad_setup: 110,
+    Session.bare_call: 25,
     Session.no_call: 30,
     Session.mutated: 160,
     Session.empty_line: 8,

@@ -12,12 +12,14 @@ from __future__ import annotations
 
 import re
 import sys
+from collections.abc import Sequence
 from dataclasses import dataclass, field
 from enum import Enum, auto
 from typing import Any, Generic
 
+from layers import Mask, layered
 from nets import EVENT_BYTES, Event, Net
-from systems import E, Layer, Number, Refusal, S, System
+from systems import E, Layer, Number, Refusal, S, System, is_name
 from terms import Misfit, Terms, decode_body
 
 MOST_FRAME_BYTES = 1024
@@ -25,6 +27,8 @@ SHEETS = 4
 MOST_STEPS = 32
 MOST_EVENTS = 48
 MOST_DEFINITIONS = 16
+MOST_PAIRS = 8
+MOST_MASKED = 8
 KIND_TERMS = 0x01
 KIND_NET = 0x02
 DONE = b"\x00"
@@ -106,7 +110,7 @@ class Bench(Generic[S, E]):
         try:
             run = Run([self.system.state(sheet.start)], [])
             for place, data in enumerate(sheet.steps, start=1):
-                step = self.system.step(data)
+                [step] = self.system.given(data)
                 run.states.append(self.system.follow(run.end, step))
                 run.steps.append(step)
         except Refusal as beneath:
@@ -126,7 +130,8 @@ class Bench(Generic[S, E]):
         run = self.replay(sheet)
         if len(sheet.steps) >= MOST_STEPS:
             raise Refusal(Number.FULL, Layer.BENCH, MOST_STEPS)
-        end = self.system.follow(run.end, self.system.step(data))
+        [step] = self.system.given(data)
+        end = self.system.follow(run.end, step)
         sheet.steps.append(data)
         return self.system.encode_state(end)
 
@@ -199,6 +204,14 @@ class Bench(Generic[S, E]):
         labels = [self.system.label(step) for step in run.steps]
         steps = list(zip(labels, sheet.steps))
         return Printout(sheet.start, steps, self.system.encode_state(run.end))
+
+    def look(self, number: int, count: int) -> bytes:
+        """The state after so many of the first steps."""
+        sheet = self.sheet(number, Standing.OPEN, Standing.RELEASED)
+        run = self.replay(sheet)
+        if count > len(sheet.steps):
+            raise Refusal(Number.ABSENT, Layer.BENCH, count)
+        return self.system.encode_state(run.states[count])
 
 
 # Frames
@@ -284,45 +297,77 @@ class Reader:
         return taken
 
 
-def read_setup(reader: Reader) -> System[Any, Any]:
-    """The system of a setup frame whose first byte has been read.
+@dataclass
+class Layout:
+    """The parts of a setup frame, whatever is in them."""
 
-    The kind comes first, then the layout of the whole frame, then the rules
-    in the order of the frame.
-    """
+    kind: int
+    pairs: Table
+    masked: Table
+    rest: Table
+
+
+def read_layout(reader: Reader) -> Layout:
+    """Takes a setup frame apart whose first byte has been read."""
     kind_place = reader.place
     kind = reader.byte()
     if kind not in (KIND_TERMS, KIND_NET):
         raise setup_refusal(kind_place)
     pairs = reader.table(2)
     masked = reader.table(1)
-    parts = reader.table() if kind == KIND_TERMS else reader.table(EVENT_BYTES)
+    rest = reader.table() if kind == KIND_TERMS else reader.table(EVENT_BYTES)
     reader.finish()
-    if pairs.rows:
-        raise setup_refusal(pairs.place)
-    if masked.rows:
-        raise setup_refusal(masked.place)
-    return read_terms(parts) if kind == KIND_TERMS else read_net(parts)
+    return Layout(kind, pairs, masked, rest)
+
+
+def read_setup(layout: Layout) -> Mask[Any, Any]:
+    """The system of a setup; its rules are asked in the order of the frame."""
+    pairs = read_pairs(layout.pairs)
+    masked = read_masked(layout.masked)
+    return layered(read_terms(layout.rest) if layout.kind == KIND_TERMS else read_net(layout.rest), pairs, masked)
+
+
+def rows_of(table: Table, most: int) -> Sequence[Row]:
+    """The rows of a table of at most so many."""
+    if len(table.rows) > most:
+        raise setup_refusal(table.place)
+    return table.rows
+
+
+def read_pairs(table: Table) -> dict[int, int]:
+    pairs: dict[int, int] = {}
+    for row in rows_of(table, MOST_PAIRS):
+        source, target = row.data
+        if not is_name(source) or source in pairs:
+            raise setup_refusal(row.place)
+        if not is_name(target):
+            raise setup_refusal(row.place + 1)
+        pairs[source] = target
+    return pairs
+
+
+def read_masked(table: Table) -> list[int]:
+    names = []
+    for row in rows_of(table, MOST_MASKED):
+        if not is_name(row.data[0]):
+            raise setup_refusal(row.place)
+        names.append(row.data[0])
+    return names
 
 
 def read_terms(table: Table) -> Terms:
-    count = len(table.rows)
-    if count > MOST_DEFINITIONS:
-        raise setup_refusal(table.place)
     bodies = []
-    for row in table.rows:
+    for row in rows_of(table, MOST_DEFINITIONS):
         try:
-            bodies.append(decode_body(row.data, count))
+            bodies.append(decode_body(row.data, len(table.rows)))
         except Misfit as misfit:
             raise setup_refusal(row.place + misfit.place) from None
     return Terms(bodies)
 
 
 def read_net(table: Table) -> Net:
-    if len(table.rows) > MOST_EVENTS:
-        raise setup_refusal(table.place)
     events = []
-    for row in table.rows:
+    for row in rows_of(table, MOST_EVENTS):
         event = Event.decode(row.data)
         if not event.is_sound():
             raise setup_refusal(row.place)
@@ -334,7 +379,7 @@ class Server:
     """Answers frames, one line each."""
 
     def __init__(self) -> None:
-        self.bench: Bench[Any, Any] = Bench(Terms())
+        self.bench: Bench[Any, Any] = Bench(layered(Terms()))
 
     def answer(self, line: bytes) -> bytes:
         """The answer to a line without its line end; all its lines have theirs."""
@@ -350,7 +395,7 @@ class Server:
         reader = Reader(frame)
         match reader.byte():
             case 0xA0:
-                bench.system = read_setup(reader)
+                bench.system = read_setup(read_layout(reader))
                 return [DONE]
             case 0xB0:
                 number, start = reader.byte(), reader.rest()
@@ -374,6 +419,8 @@ class Server:
                 return [DONE]
             case 0xB7:
                 return print_lines(bench.print(*reader.last(1)))
+            case 0xB9:
+                return [DONE + bench.look(*reader.last(2))]
             case _:
                 raise frame_refusal(0)
 

@@ -13,6 +13,27 @@ MOST_STEP_BYTES = 64
 MOST_PLACE = 0xFFFF
 
 
+# Actions
+
+SILENT = 0x00
+# From a name to its co-name.
+CO = 0x40
+
+
+def is_action(byte: int) -> bool:
+    """Silent, a name or a co-name."""
+    return byte == SILENT or is_name(byte) or is_name(byte - CO)
+
+
+def is_name(byte: int) -> bool:
+    return 0x01 <= byte <= 0x3F
+
+
+def name_of(action: int) -> int | None:
+    """The name of a name or co-name; the silent action has none."""
+    return None if action == SILENT else action % CO
+
+
 # Refusals
 
 
@@ -34,6 +55,7 @@ class Number(IntEnum):
     STATE = 4
     STEP = 5
     IMPOSSIBLE = 6
+    MASKED = 7
     LONG_STATE = 8
     FULL = 9
     ABSENT = 10
@@ -57,15 +79,6 @@ class Refusal(Exception):
     def encode(self) -> bytes:
         own = bytes([self.number, self.layer]) + min(self.place, MOST_PLACE).to_bytes(2, "big")
         return own + (self.beneath.encode() if self.beneath else b"")
-
-
-def is_action(byte: int) -> bool:
-    """Silent, a name or a co-name."""
-    return byte == 0x00 or is_name(byte) or 0x41 <= byte <= 0x7F
-
-
-def is_name(byte: int) -> bool:
-    return 0x01 <= byte <= 0x3F
 
 
 # Systems
@@ -117,6 +130,22 @@ class System(ABC, Generic[S, E]):
     @abstractmethod
     def back(self, first: E, second: E) -> E | None:
         """The step, independent of the first, of which the second is left after it; None where there is none."""
+
+    def is_masked(self, step: E) -> bool:
+        """Whether a mask hides the step, which then is none."""
+        return False
+
+    @property
+    def bottom(self) -> System[S, E]:
+        """The system below all layers."""
+        return self
+
+    def given(self, *strings: bytes) -> list[E]:
+        """The steps written as these bytes; refuses with STEP for any of them, then with MASKED."""
+        steps = [self.step(data) for data in strings]
+        if any(self.is_masked(step) for step in steps):
+            raise Refusal(Number.MASKED, Layer.MASK, 0)
+        return steps
 
     def follow(self, state: S, step: E) -> S:
         """The state after the step, if it is not too long; refuses with IMPOSSIBLE and LONG_STATE."""

@@ -8,34 +8,80 @@ from dataclasses import dataclass, field, replace
 from os.path import commonprefix
 from typing import Any
 
-from drawing import CALLS, JOIN, PRINT, SWAP
+from drawing import ADD, CALLS, JOIN, LOOK, OPEN, PRINT, RELEASE, REOPEN, SETUP, SWAP, WITHDRAW
 from nets import Net
-from sheetbench import MOST_STEPS, SHEETS, Bench, Server, Standing, decode_line
+from replays import beneath, stopped_sheet
+from sheetbench import KIND_NET, MOST_STEPS, SHEETS, Bench, Server, Standing, decode_line
 from systems import Number, Refusal
+from tally_layers import KINDS, LAYER_HAPPENINGS, kind_of, names_under_layers
+from tally_setups import FAULTS, SETUP_HAPPENINGS, names_of_setup
 from tally_terms import TERM_HAPPENINGS, names_over_terms
 
-# How many different places each refusal must have occurred at.
-LEAST_PLACES = {
-    Number.FRAME: 20,
-    Number.SETUP: 20,
-    Number.SHEET: 2,
-    Number.STATE: 20,
-    Number.STEP: 20,
-    Number.IMPOSSIBLE: 20,
-    Number.LONG_STATE: 20,
-    Number.FULL: 1,
-    Number.ABSENT: 20,
-    Number.DEPENDENT: 10,
-    Number.LONG_STEP: 10,
-    Number.STARTS: 1,
-    Number.CONFLICT: 10,
-    Number.LENGTH: 10,
-    Number.REPLAY: 10,
+CALL_NAMES = dict(zip(CALLS, ("setup", "open", "add", "swap", "withdraw", "join", "release", "reopen", "print", "look")))
+# What each call can be refused by.
+REFUSED_BY = {
+    SETUP: (1, 2),
+    OPEN: (1, 3, 4),
+    ADD: (1, 3, 5, 6, 7, 8, 9, 16),
+    SWAP: (1, 3, 8, 10, 11, 12, 16),
+    WITHDRAW: (1, 3, 10, 16),
+    JOIN: (1, 3, 8, 13, 14, 15, 16),
+    RELEASE: (1, 3, 16),
+    REOPEN: (1, 3, 16),
+    PRINT: (1, 3, 16),
+    LOOK: (1, 3, 10, 16),
 }
-# What must have stopped replays.
-STOPPING = (Number.STATE, Number.STEP, Number.IMPOSSIBLE, Number.LONG_STATE)
-# What must have happened in swaps and joins, and how often.
+# What can stop a replay.
+BENEATH = (4, 5, 6, 7, 8)
+# At how many different places some things must have occurred.
+LEAST_PLACES = {
+    "refusal 1": 20,
+    "refusal 2": 40,
+    "refusal 3": 2,
+    "refusal 4": 20,
+    "refusal 5": 20,
+    "refusal 6": 20,
+    "refusal 8": 20,
+    "refusal 10": 100,
+    "refusal 11": 10,
+    "refusal 12": 10,
+    "refusal 14": 10,
+    "refusal 15": 10,
+    "refusal 16": 30,
+    "setup refused by 1": 100,
+    "swap refused by 10": 40,
+    "look refused by 10": 40,
+    "replay stopped by 5": 10,
+    "replay stopped by 6": 20,
+    "replay stopped by 7": 20,
+    "replay stopped by 8": 10,
+    **{f"setup refused for {fault}": places for fault, places in zip(FAULTS, (1, 8, 7, 8, 6, 10, 10, 40))},
+}
+HOW_MANY_STEPS = ("0 steps", "some steps", "all steps", "one step too many", "255 steps", "other steps past the last")
+GENERAL_HAPPENINGS = (
+    *(f"{call} {'of' if call == 'setup' else 'over'} {kind}" for call in CALL_NAMES.values() for kind in KINDS),
+    *(f"refusal {number}" for number in range(1, 17)),
+    *(f"{CALL_NAMES[call]} refused by {number}" for call, numbers in REFUSED_BY.items() for number in numbers),
+    *(f"replay stopped by {number}" for number in BENEATH),
+    *(f"{CALL_NAMES[call]} stopped by {beneath}" for call in CALLS if 16 in REFUSED_BY[call] for beneath in BENEATH),
+)
+# What must have happened, and how often.
 HAPPENINGS = (
+    *GENERAL_HAPPENINGS,
+    f"print of {MOST_STEPS} steps",
+    "print of the same steps with other labels",
+    "look that lacks bytes",
+    "look with bytes too many",
+    "look at no sheet",
+    "look at a blank sheet",
+    "look at a stopped sheet",
+    "look at more steps than a stopped sheet has",
+    "look at the steps before the one that stops the sheet",
+    *(f"look at {steps} of {sheet}" for steps in HOW_MANY_STEPS for sheet in ("an open sheet", "a released sheet")),
+    "look at 0 steps of a sheet without steps",
+    "look at 1 step of a sheet without steps",
+    f"look at {MOST_STEPS} steps",
+    f"look at {MOST_STEPS + 1} steps of a full sheet",
     "swap that lacks bytes",
     "swap with bytes too many",
     "swap on no sheet",
@@ -77,6 +123,8 @@ HAPPENINGS = (
     "join that shares all",
     "join that shares in another order",
     *TERM_HAPPENINGS,
+    *SETUP_HAPPENINGS,
+    *LAYER_HAPPENINGS,
 )
 LEAST_TIMES = 5
 
@@ -97,10 +145,60 @@ class Happening:
     def place(self) -> int:
         return int.from_bytes(self.answer[2:4], "big")
 
+    @property
+    def call(self) -> str:
+        return CALL_NAMES[self.frame[0]]
+
     def names(self) -> Iterator[str]:
+        yield from self.general_names()
+        if self.frame[0] == SETUP:
+            yield from names_of_setup(self.bench, self.frame, self.answer)
+        if len(self.frame) < 2:
+            return
+        yield from names_over_terms(self.bench, self.frame, self.answer)
+        if self.frame[0] != SETUP:
+            yield from names_under_layers(self.bench, self.frame, self.answer)
         if self.frame[0] in (SWAP, JOIN):
             yield from self.two_step_names()
-        yield from names_over_terms(self.bench, self.frame, self.answer)
+        elif self.frame[0] == LOOK:
+            yield from self.look_names()
+        elif self.frame[0] == PRINT and not self.refused:
+            yield f"print of {self.answer[1]} steps"
+
+    def general_names(self) -> Iterator[str]:
+        if self.refused:
+            yield f"refusal {self.refused}"
+            yield f"{self.call} refused by {self.refused}"
+        elif self.frame[0] == SETUP:
+            yield f"setup of {'a net' if self.frame[1] == KIND_NET else 'terms'}"
+        else:
+            yield f"{self.call} over {kind_of(self.bench.system)}"
+        if self.refused == Number.REPLAY:
+            yield f"replay stopped by {self.answer[4]}"
+            yield f"{self.call} stopped by {self.answer[4]}"
+
+    def look_names(self) -> Iterator[str]:
+        if len(self.frame) != 3:
+            yield f"look {'that lacks bytes' if len(self.frame) < 3 else 'with bytes too many'}"
+            return
+        number, count = self.frame[1:]
+        if self.refused == Number.SHEET:
+            yield f"look at {self.sheet_name(number)}"
+            return
+        sheet = self.bench.sheets[number]
+        length = len(sheet.steps)
+        if self.refused == Number.REPLAY:
+            yield "look at a stopped sheet"
+            if count > length:
+                yield "look at more steps than a stopped sheet has"
+            elif count < self.place:
+                yield "look at the steps before the one that stops the sheet"
+            return
+        yield f"look at {how_many(count, length)} of {self.sheet_name(number)}"
+        if not length and count < 2:
+            yield f"look at {count} step{'' if count else 's'} of a sheet without steps"
+        if length == MOST_STEPS <= count:
+            yield f"look at {count} steps{'' if count == length else ' of a full sheet'}"
 
     def two_step_names(self) -> Iterator[str]:
         """What happens in a swap or a join, over any system."""
@@ -117,14 +215,13 @@ class Happening:
             yield from self.join_names(*self.frame[1:])
 
     def sheet_name(self, number: int) -> str:
-        return f"a {self.bench.sheets[number].standing.name.lower()} sheet" if number < SHEETS else "no sheet"
+        if number >= SHEETS:
+            return "no sheet"
+        standing = self.bench.sheets[number].standing.name.lower()
+        return f"{'an' if standing == 'open' else 'a'} {standing} sheet"
 
     def is_stopped(self, number: int) -> bool:
-        try:
-            self.bench.replay(self.bench.sheets[number])
-        except Refusal:
-            return True
-        return False
+        return beneath(self.bench, self.bench.sheets[number]) is not None
 
     def swap_name(self, number: int, place: int) -> str:
         if self.refused == Number.SHEET:
@@ -173,7 +270,7 @@ class Happening:
     def conflict_names(self, number: int, other: int) -> Iterator[str]:
         one, two = (self.bench.replay(self.bench.sheets[n]).steps for n in (number, other))
         step = two[self.place - 1]
-        system = self.bench.system
+        system = self.bench.system.bottom
         if isinstance(system, Net) and any(system.events[met] == system.events[step] for met in one if met != step):
             yield "join with a conflict of equal events"
         if len(one) + len(self.bench.carry_all(two[: self.place - 1], one)) > MOST_STEPS:
@@ -198,70 +295,77 @@ class Happening:
                 yield "join that shares in another order"
 
 
-def answer_with_names(server: Server, line: bytes) -> tuple[bytes, list[str]]:
-    """The model's answer to a line, and what happens there."""
-    before = Bench(server.bench.system)
-    before.sheets = [replace(sheet, steps=list(sheet.steps)) for sheet in server.bench.sheets]
-    answer = server.answer(line)
-    try:
-        frame = decode_line(line)
-    except Refusal:
-        return answer, []
-    first = bytes.fromhex(answer.split(b"\n", 1)[0].decode("ascii"))
-    return answer, list(Happening(frame, first, before).names()) if frame and len(frame) > 1 else []
+def how_many(count: int, length: int) -> str:
+    """What a look at so many of so many steps is one of."""
+    if count == length:
+        return "all steps" if count else "0 steps"
+    if count == length + 1:
+        return "one step too many"
+    if count < length:
+        return "some steps" if count else "0 steps"
+    return "255 steps" if count == 0xFF else "other steps past the last"
+
+
+class Watch:
+    """A server, and what happens in its answers."""
+
+    def __init__(self) -> None:
+        self.server = Server()
+        # The labels with which a start and steps were printed last.
+        self.printed: dict[tuple[bytes, ...], list[bytes]] = {}
+
+    def answer(self, line: bytes) -> tuple[bytes, list[str]]:
+        """The answer to a line, and what happens there."""
+        before = Bench(self.server.bench.system)
+        before.sheets = [replace(sheet, steps=list(sheet.steps)) for sheet in self.server.bench.sheets]
+        answer = self.server.answer(line)
+        first, *others = [bytes.fromhex(part.decode("ascii")) for part in answer.splitlines()]
+        try:
+            frame = decode_line(line)
+        except Refusal:
+            frame = b""
+        if frame[:1] not in (bytes([call]) for call in CALLS):
+            return answer, [f"refusal {first[0]}"]
+        names = list(Happening(frame, first, before).names())
+        if others:
+            names += self.print_names(first[2:], others[:-1])
+        return answer, names
+
+    def print_names(self, start: bytes, lines: list[bytes]) -> Iterator[str]:
+        labels = [line[:1] for line in lines]
+        steps = (start, *(line[1:] for line in lines))
+        if self.printed.get(steps, labels) != labels:
+            yield "print of the same steps with other labels"
+        self.printed[steps] = labels
 
 
 @dataclass
 class Tally:
-    """What has occurred in the answers."""
+    """What has happened in the answers, how often, and at how many places."""
 
-    accepted: Counter[int] = field(default_factory=Counter)
-    refused: Counter[int] = field(default_factory=Counter)
-    places: dict[int, set[int]] = field(default_factory=lambda: defaultdict(set))
-    stopping: Counter[int] = field(default_factory=Counter)
-    happenings: Counter[str] = field(default_factory=Counter)
-    longest_print: int = 0
+    times: Counter[str] = field(default_factory=Counter)
+    places: dict[str, set[int]] = field(default_factory=lambda: defaultdict(set))
 
-    def count(self, line: bytes, answer: bytes, names: list[str]) -> None:
-        self.happenings.update(names)
-        first = bytes.fromhex(answer.split(b"\n", 1)[0].decode("ascii"))
-        if first[0] == 0:
-            call = int(line[:2], 16)
-            self.accepted[call] += 1
-            if call == PRINT:
-                self.longest_print = max(self.longest_print, first[1])
-            return
-        number, place = first[0], int.from_bytes(first[2:4], "big")
-        self.refused[number] += 1
-        self.places[number].add(place)
-        if number == Number.REPLAY:
-            self.stopping[first[4]] += 1
+    def count(self, answer: bytes, names: list[str]) -> None:
+        self.times.update(set(names))
+        if not answer.startswith(b"00"):
+            place = int(answer[4:8], 16)
+            for name in LEAST_PLACES.keys() & set(names):
+                self.places[name].add(place)
 
-    def show(self) -> None:
-        for call, times in sorted(self.accepted.items()):
-            print(f"call {call:02X}: {times} accepted")
-        for number, times in sorted(self.refused.items()):
-            print(f"refusal {number}: {times} at {len(self.places[number])} places")
-        for number, times in sorted(self.stopping.items()):
-            print(f"replay stopped by refusal {number}: {times}")
-        for name in HAPPENINGS:
-            print(f"{name}: {self.happenings[name]}")
-        print(f"longest print: {self.longest_print} steps")
+    def show(self, everything: bool) -> None:
+        """Says how often each thing has happened, or only the general ones and the rarest."""
+        for name in HAPPENINGS if everything else GENERAL_HAPPENINGS:
+            places = f" at {len(self.places[name])} places" if name in LEAST_PLACES else ""
+            print(f"{name}: {self.times[name]}{places}")
+        rarest = min(HAPPENINGS, key=lambda name: self.times[name])
+        print(f"{len(HAPPENINGS)} things were to happen; the rarest happened {self.times[rarest]} times: {rarest}")
 
     def lacks(self) -> Iterator[str]:
-        """What should have occurred and has not."""
-        for call in CALLS:
-            if not self.accepted[call]:
-                yield f"call {call:02X} was never accepted"
-        for number, least in LEAST_PLACES.items():
-            found = len(self.places[number])
-            if found < least:
-                yield f"refusal {number.value} occurred at {found} places, fewer than {least}"
-        for number in STOPPING:
-            if not self.stopping[number]:
-                yield f"no replay was stopped by refusal {number.value}"
+        """What should have happened and has not, or too seldom."""
         for name in HAPPENINGS:
-            if self.happenings[name] < LEAST_TIMES:
-                yield f"{name}: fewer than {LEAST_TIMES}"
-        if self.longest_print < MOST_STEPS:
-            yield "no full sheet was printed"
+            if self.times[name] < LEAST_TIMES:
+                yield f"{name}: {self.times[name]} times, fewer than {LEAST_TIMES}"
+        for name, least in LEAST_PLACES.items():
+            if len(self.places[name]) < least:
+                yield f"{name}: at {len(self.places[name])} places, fewer than {least}"

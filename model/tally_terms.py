@@ -7,8 +7,17 @@ from typing import Any
 
 from drawing import ADD, JOIN, OPEN, SETUP, SWAP
 from nets import Net
-from sheetbench import KIND_TERMS, MOST_DEFINITIONS, MOST_STEPS, SHEETS, Bench, Sheet, carry
-from systems import MOST_STATE_BYTES, MOST_STEP_BYTES, Number, Refusal
+from replays import stopped_sheet
+from sheetbench import (
+    KIND_TERMS,
+    MOST_DEFINITIONS,
+    MOST_STEPS,
+    Bench,
+    Layout,
+    carry,
+)
+from systems import MOST_STATE_BYTES, MOST_STEP_BYTES, Layer, Number, Refusal
+from tally_setups import layout_of
 from terms import (
     Both,
     Call,
@@ -108,8 +117,8 @@ def names_over_terms(bench: Bench[Any, Any], frame: bytes, answer: bytes) -> Ite
         yield from setup_names(bench, frame, answer)
     elif refused == Number.REPLAY:
         yield from stop_names(bench, frame, answer)
-    elif isinstance(bench.system, Terms) and refused not in (Number.FRAME, Number.SHEET):
-        terms = Talk(bench, bench.system, frame, answer)
+    elif isinstance(bench.system.bottom, Terms) and refused not in (Number.FRAME, Number.SHEET):
+        terms = Talk(bench, bench.system.bottom, frame, answer)
         if call == OPEN:
             yield from terms.open_names()
         elif call == ADD:
@@ -124,40 +133,34 @@ def names_over_terms(bench: Bench[Any, Any], frame: bytes, answer: bytes) -> Ite
 
 
 def setup_names(bench: Bench[Any, Any], frame: bytes, answer: bytes) -> Iterator[str]:
+    layout = layout_of(frame)
+    if layout is None:
+        return
+    to_terms = layout.kind == KIND_TERMS
+    rows = layout.rest.rows
+    place = int.from_bytes(answer[2:4], "big")
     if answer[0] == 0:
-        to_terms = frame[1] == KIND_TERMS
         used = any(sheet.start for sheet in bench.sheets)
-        if used and to_terms and isinstance(bench.system, Net):
+        if used and to_terms and isinstance(bench.system.bottom, Net):
             yield "setup of terms in place of a net"
-        if used and not to_terms and isinstance(bench.system, Terms):
+        if used and not to_terms and isinstance(bench.system.bottom, Terms):
             yield "setup of a net in place of terms"
-        if to_terms:
-            if frame[4] == MOST_DEFINITIONS:
-                yield f"setup of {MOST_DEFINITIONS} definitions"
-            if any(length == 255 for _, length in bodies(frame)):
-                yield "setup of a body of 255 bytes"
-    elif answer[0] == Number.SETUP and frame[1] == KIND_TERMS and frame[2:4] == b"\0\0":
-        place = int.from_bytes(answer[2:4], "big")
-        fault = "too many definitions" if place == 4 else body_fault(frame, place)
+        if to_terms and len(rows) == MOST_DEFINITIONS:
+            yield f"setup of {MOST_DEFINITIONS} definitions"
+        if to_terms and any(len(row.data) == 255 for row in rows):
+            yield "setup of a body of 255 bytes"
+    elif to_terms and place >= layout.rest.place:
+        fault = "too many definitions" if place == layout.rest.place else body_fault(layout, place)
         yield f"setup refused for {fault}"
 
 
-def bodies(frame: bytes) -> Iterator[tuple[int, int]]:
-    """The place of each body in a setup of terms without pairs and names, and its length."""
-    place = 5
-    for _ in range(frame[4]):
-        yield place + 1, frame[place]
-        place += 1 + frame[place]
-
-
-def body_fault(frame: bytes, place: int) -> str:
-    for begin, length in bodies(frame):
-        body = frame[begin : begin + length]
-        if begin <= place <= begin + length:
+def body_fault(layout: Layout, place: int) -> str:
+    for row in layout.rest.rows:
+        if row.place <= place <= row.place + len(row.data):
             try:
-                decode_body(body, frame[4])
+                decode_body(row.data, len(layout.rest.rows))
             except Misfit:
-                return one_fault(body, place - begin)
+                return one_fault(row.data, place - row.place)
     raise ValueError(place)
 
 
@@ -197,27 +200,19 @@ def fault_place(data: bytes) -> int | None:
 
 
 def stop_names(bench: Bench[Any, Any], frame: bytes, answer: bytes) -> Iterator[str]:
-    sheet = stopped_sheet(bench, [number for number in frame[1:3] if number < SHEETS])
-    if sheet is None or answer[5] != 4:
+    if answer[5] != Layer.SYSTEM:
         return
+    sheet = stopped_sheet(bench, frame)
     beneath = answer[4]
     born_in_net = len(sheet.start) == 8 and all(len(step) == 1 for step in sheet.steps)
     born_in_terms = any(len(step) > 1 for step in sheet.steps)
-    if isinstance(bench.system, Terms) and born_in_net:
+    over_terms = isinstance(bench.system.bottom, Terms)
+    if over_terms and born_in_net:
         yield f"a net's sheet stopped in terms by refusal {beneath}"
-    elif isinstance(bench.system, Terms):
+    elif over_terms:
         yield f"terms stopped in terms by refusal {beneath}"
     elif born_in_terms or len(sheet.start) != 8:
         yield f"terms stopped in a net by refusal {beneath}"
-
-
-def stopped_sheet(bench: Bench[Any, Any], numbers: list[int]) -> Sheet | None:
-    for number in numbers:
-        try:
-            bench.replay(bench.sheets[number])
-        except Refusal:
-            return bench.sheets[number]
-    return None
 
 
 # Calls over terms
@@ -375,7 +370,6 @@ class Talk:
                     yield "join of terms that shares in a choice"
             if self.drops_choice(one, other):
                 yield "join of terms that drops a choice"
-
 
     def drops_choice(self, one: list[Proof], other: list[Proof]) -> bool:
         """Whether a step of the other run is shorter where it has come behind the one."""

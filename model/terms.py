@@ -11,19 +11,22 @@ from collections.abc import Callable, Sequence
 from dataclasses import dataclass
 from functools import cached_property
 
-from systems import MOST_STATE_BYTES, MOST_STEP_BYTES, Layer, Number, Refusal, System, is_action, is_name
+from systems import (
+    CO,
+    MOST_STATE_BYTES,
+    MOST_STEP_BYTES,
+    SILENT,
+    Layer,
+    Number,
+    Refusal,
+    System,
+    is_action,
+    is_name,
+    name_of,
+)
 
 # A tree can be some hundreds of nodes deep, each a few calls.
 sys.setrecursionlimit(20_000)
-
-SILENT = 0x00
-# From a name to its co-name.
-CO = 0x40
-
-
-def name_of(action: int) -> int | None:
-    """The name of a name or co-name; the silent action has none."""
-    return None if action == SILENT else action % CO
 
 
 def complementary(one: int, other: int) -> bool:

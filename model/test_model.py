@@ -41,7 +41,7 @@ OPEN = "B000" + C0
 FRAME_CASES: list[Case] = [
     ("an empty line is a frame of no bytes", [], "", "01010000"),
     ("no such call", [], "B8", "01010000"),
-    ("a call for later", [], "B90000", "01010000"),
+    ("no such call behind the last", [], "BA0000", "01010000"),
     ("digits are read before the call", [], "FF0G", "01010001"),
     ("a bad digit in the first half of a byte", [], "B000G0", "01010002"),
     ("a carriage return is a bad digit", [], "B500\r", "01010002"),
@@ -79,9 +79,6 @@ SETUP_CASES: list[Case] = [
     ("missing event", [], "A002000002" + TO, "01010016"),
     ("extra byte", [], "A00200000000", "01010005"),
     ("an extra byte precedes a bad event", [], "A00200000140" + C0 + C1 + "00", "01010016"),
-    ("a pair", [], "A00201AABB0000", "02010002"),
-    ("a pair precedes a masked name", [], "A00201AABB01CC00", "02010002"),
-    ("a masked name", [], "A0020001CC00", "02010003"),
     ("48 events", [], "A002000030" + 48 * TO, "00"),
     ("49 events", [], "A002000031" + 49 * TO, "02010004"),
     ("40 is no action", [], "A00200000140" + C0 + C1, "02010005"),
