@@ -4,7 +4,6 @@ use Rattle.byte_strings.specs.Buffer.{Str, over}
 use Rattle.hexadecimal.specs.Hex.{read_told}
 use Rattle.hexadecimal.specs.Line.{line}
 use Rattle.steps.specs.Meaning.{Transitions, Independence}
-use Rattle.systems.specs.Design.{Design, design_of, transitions_of, independence_of}
 use Rattle.bench.specs.Page.{Page}
 use Rattle.bench.specs.Calls.{Outcome, answered, opened, added, withdrawn, released, reopened}
 use Rattle.bench.specs.Swap.{swapped}
@@ -20,15 +19,16 @@ use Rattle.frame.specs.Frames.FrameView.{setup, open_sheet, add, swap, withdraw,
 use Rattle.frame.specs.Reading.{frame_told}
 use Rattle.server.specs.declared.server.Server.{Server}
 use Rattle.server.specs.Text.{refusal_line, call_text, print_text, text_limit}
-use Rattle.server.specs.DesignSetup.{design_told}
+use Rattle.server.specs.Layered.{Layered, layered_of, layered_transitions, layered_independence}
+use Rattle.server.specs.LayeredSetup.{layered_told}
 
--- the design, and the four sheets
+-- the system, and the four sheets
 pub record Model : Type 0 where
-  pub design : Design
+  pub system : Layered
   pub pages : List Page
 
 abbrev pub model_of : Server → Model
-model_of s = record { design = design_of s.system; pages = pages_of s.bench }
+model_of s = record { system = layered_of s.system; pages = pages_of s.bench }
 
 -- an answer's text, and what is kept afterwards
 pub record Reply : Type 0 where
@@ -38,14 +38,14 @@ pub record Reply : Type 0 where
 abbrev pub refused : Model → FrameFault → Reply
 refused m f = record { text = refusal_line (frame_refusal f); model = m }
 
--- a setup replaces the design and leaves the sheets
-abbrev pub setup_reply : Model → Result Design FrameFault → Reply
-setup_reply m (Ok d) = record { text = line (0 ∷ []); model = record { design = d; pages = m.pages } }
+-- a setup replaces the system and leaves the sheets
+abbrev pub setup_reply : Model → Result Layered FrameFault → Reply
+setup_reply m (Ok l) = record { text = line (0 ∷ []); model = record { system = l; pages = m.pages } }
 setup_reply m (Err f) = refused m f
 
 -- a call on a sheet
 abbrev pub sheet_reply : Model → ℕ → Outcome → Reply
-sheet_reply m s o = record { text = call_text (answered o); model = record { design = m.design; pages = pages_after o m.pages s } }
+sheet_reply m s o = record { text = call_text (answered o); model = record { system = m.system; pages = pages_after o m.pages s } }
 
 abbrev pub print_reply : Model → Outcome → Reply
 print_reply m o = record { text = print_text (answered o); model = m }
@@ -63,13 +63,13 @@ named_standing ps (reopen s) = standing_of (page_at ps s)
 named_standing ps (print s) = standing_of (page_at ps s)
 
 abbrev pub system_of : Model → Transitions
-system_of m = transitions_of m.design
+system_of m = layered_transitions m.system
 
 abbrev pub reworking_of : Model → Independence
-reworking_of m = independence_of m.design
+reworking_of m = layered_independence m.system
 
 abbrev pub frame_reply : Model → FrameView → Reply
-frame_reply m (setup pairs names system) = setup_reply m (design_told system)
+frame_reply m (setup pairs names system) = setup_reply m (layered_told pairs names system)
 frame_reply m (open_sheet s state) = sheet_reply m s (on_sheet m.pages s (opened (system_of m) state))
 frame_reply m (add s step) = sheet_reply m s (on_sheet m.pages s (added (system_of m) step 256))
 frame_reply m (swap s place) = sheet_reply m s (on_sheet m.pages s (swapped (system_of m) (reworking_of m) place))

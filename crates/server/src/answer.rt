@@ -9,8 +9,8 @@ ghost use Rattle.server.specs.Answer.{model_of, line_reply, reply_length, reply_
 
 use crate::fault::Fault;
 use crate::server::Server;
-use crate::text;
 use crate::text::TEXT_LIMIT;
+use crate::{setup, text};
 use bench::bench::Bench;
 use frame::fault::FrameFault;
 use frame::frame::{FRAME_LIMIT, Frame};
@@ -20,10 +20,10 @@ use terms::terms::Terms;
 impl Server {
     // Terms with no definitions, and four blank sheets.
     pub fn new() -> Server
-        ensures { model_of result ≡ record { design = of_terms []; pages = replicate 4 blank_page } }
+        ensures { model_of result ≡ record { system = record { design = of_terms []; pairs = []; names = [] }; pages = replicate 4 blank_page } }
     {
         Server {
-            system: TermsOrNet::Terms(Terms::new(0)),
+            system: setup::bare(TermsOrNet::Terms(Terms::new(0))),
             bench: Bench::new(),
         }
     }

@@ -29,7 +29,7 @@ impl Server {
         // The call and the sheet's standing decide together. By the frames themselves: each has data of its own.
         let n = match (self.standing(&frame), frame) {
             (_, Frame::Setup(setup)) => {
-                self.system = setup::build(&setup.system)?;
+                self.system = setup::build(&setup)?;
                 0
             }
             (Some(Standing::Blank), Frame::Open { sheet, state }) => {

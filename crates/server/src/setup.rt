@@ -1,24 +1,41 @@
 // The step system of a setup.
-ghost use Rattle.std.specs.Prelude.{◌≡◌};
-ghost use Rattle.frame.specs.Frames.{Few};
-ghost use Rattle.frame.specs.Reading.{system_view};
-ghost use Rattle.server.specs.DesignSetup.{design_told, design_view};
+ghost use Rattle.std.specs.Prelude.{◌≡◌, []};
+ghost use Rattle.systems.specs.Design.{design_of};
+ghost use Rattle.frame.specs.Frames.{WithinRules};
+ghost use Rattle.frame.specs.Reading.{setup_view, system_view};
+ghost use Rattle.server.specs.Layered.{layered_of};
+ghost use Rattle.server.specs.LayeredSetup.{layered_told, layered_view};
 
+use actions::names::Names;
+use actions::pairs::Pairs;
 use frame::fault::FrameFault;
-use frame::setup::System;
+use frame::setup::Setup;
+use layers::mask::Mask;
+use layers::renaming::Renaming;
 use systems::terms_or_net::TermsOrNet;
 
 mod definitions;
+mod design;
 mod net;
 
-// Makes the terms or the net, or refuses the first body or event that breaks a rule.
-pub(crate) fn build(system: &System<'_>) -> Result<TermsOrNet, FrameFault>
-    requires { Few (system_view system.now) }
-    ensures { design_view result ≡ design_told (system_view system.now) }
+// Terms or a net with nothing renamed and nothing masked.
+pub(crate) fn bare(system: TermsOrNet) -> Mask<Renaming<TermsOrNet>>
+    ensures { layered_of result ≡ record { design = design_of system; pairs = []; names = [] } }
 {
-    let made = match system {
-        System::Terms(bodies) => TermsOrNet::Terms(definitions::build(bodies)?),
-        System::Net(events) => TermsOrNet::Net(net::build(events)?),
+    let system = Renaming {
+        system,
+        pairs: Pairs::none(),
     };
-    Ok(made)
+    Mask {
+        system,
+        names: Names::none(),
+    }
+}
+
+// Makes the terms or the net with its renaming and its mask, or refuses the first body or event that breaks a rule.
+pub(crate) fn build(setup: &Setup<'_>) -> Result<Mask<Renaming<TermsOrNet>>, FrameFault>
+    requires { WithinRules (setup_view setup.now) }
+    ensures { layered_view result ≡ layered_told setup.now.pairs.now setup.now.names.now (system_view setup.now.system) }
+{
+    Ok(bare(design::build(&setup.system)?))
 }

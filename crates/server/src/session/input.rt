@@ -13,7 +13,7 @@ use byte_strings::held::Held;
 impl Session {
     // A new server, and an empty line.
     pub fn new() -> Session
-        ensures model { model_of result.server ≡ record { design = of_terms []; pages = replicate 4 blank_page } }
+        ensures model { model_of result.server ≡ record { system = record { design = of_terms []; pairs = []; names = [] }; pages = replicate 4 blank_page } }
         ensures line { result.line ≡ [] }
     {
         Session {

@@ -1,0 +1,29 @@
+-- What a setup gives: terms or a net, behind pairs that rename what steps show, behind names that mask them. Assumes nothing.
+use Rattle.std.specs.Prelude.{ℕ, List}
+use Rattle.actions.specs.declared.pairs.Pair.{Pair}
+use Rattle.actions.specs.Contents.{names_of, pairs_of}
+use Rattle.steps.specs.Meaning.{Transitions, Independence}
+use Rattle.systems.specs.declared.terms_or_net.TermsOrNet.{TermsOrNet}
+use Rattle.systems.specs.Design.{Design, design_of, transitions_of, independence_of}
+use Rattle.layers.specs.declared.mask.Mask.{Mask}
+use Rattle.layers.specs.declared.renaming.Renaming.{Renaming}
+use Rattle.layers.specs.Mask.{masked, masked_independence}
+use Rattle.layers.specs.Renaming.{with_names}
+
+pub record Layered : Type 0 where
+  pub design : Design
+  pub pairs : List Pair
+  pub names : List ℕ
+
+abbrev pub layered_of : Mask (Renaming TermsOrNet) → Layered
+layered_of m = record { design = design_of m.system.system; pairs = pairs_of m.system.pairs; names = names_of m.names }
+
+-- what a step shows below the mask is renamed
+abbrev pub renamed_transitions : Layered → Transitions
+renamed_transitions l = with_names l.pairs (transitions_of l.design)
+
+abbrev pub layered_transitions : Layered → Transitions
+layered_transitions l = masked l.names (renamed_transitions l)
+
+abbrev pub layered_independence : Layered → Independence
+layered_independence l = masked_independence l.names (renamed_transitions l) (independence_of l.design)
