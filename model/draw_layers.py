@@ -44,6 +44,9 @@ def random_count(random: Random, most: int) -> int:
 def random_layers(random: Random, used: Sequence[int]) -> Layers:
     """Layers over a system with these names; the mask often hides none of them."""
     pairs = pairs_between(random, used, random_count(random, MOST_PAIRS))
+    if len(used) > 1 and random.random() < 0.2:
+        one, other = random.sample(used, 2)
+        pairs = bytes([one, other, other, one])
     layers = Layers(pairs)
     shown = {layers.shown(name) for name in used}
     others = [name for name in NAMES if name not in shown] or NAMES
@@ -144,22 +147,31 @@ def too_many_pairs(random: Random, layers: Layers) -> Layers:
     return Layers((different + random.randbytes(2 * MOST_COUNT))[: 2 * count], layers.masked)
 
 
+def with_bad_to(random: Random, pairs: bytes, pair: int) -> bytes:
+    return with_byte(pairs, 2 * pair + 1, random.choice(NO_NAMES))
+
+
 def bad_from(random: Random, layers: Layers) -> Layers:
+    """A from-name that is none, perhaps with a to-name that is none either."""
     pairs = any_pairs(random, layers)
-    return Layers(with_byte(pairs, 2 * random.randrange(len(pairs) // 2), random.choice(NO_NAMES)), layers.masked)
+    pair = random.randrange(len(pairs) // 2)
+    pairs = with_byte(pairs, 2 * pair, random.choice(NO_NAMES))
+    return Layers(with_bad_to(random, pairs, pair) if random.random() < 0.2 else pairs, layers.masked)
 
 
 def bad_to(random: Random, layers: Layers) -> Layers:
     pairs = any_pairs(random, layers)
-    return Layers(with_byte(pairs, 2 * random.randrange(len(pairs) // 2) + 1, random.choice(NO_NAMES)), layers.masked)
+    return Layers(with_bad_to(random, pairs, random.randrange(len(pairs) // 2)), layers.masked)
 
 
 def from_twice(random: Random, layers: Layers) -> Layers:
+    """A from-name given twice, perhaps the second time with a to-name that is none."""
     pairs = any_pairs(random, layers)
     if len(pairs) == 2:
         pairs *= 2
-    later, earlier = sorted(random.sample(range(len(pairs) // 2), 2), reverse=True)
-    return Layers(with_byte(pairs, 2 * later, pairs[2 * earlier]), layers.masked)
+    earlier, later = sorted(random.sample(range(len(pairs) // 2), 2))
+    pairs = with_byte(pairs, 2 * later, pairs[2 * earlier])
+    return Layers(with_bad_to(random, pairs, later) if random.random() < 0.2 else pairs, layers.masked)
 
 
 def too_many_masked(random: Random, layers: Layers) -> Layers:

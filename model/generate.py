@@ -756,7 +756,7 @@ class Session:
         for number, ring, count in ((one, 0, own), (other, 1, others)):
             self.send(OPEN, number, encode_set(set().union(*starts)))
             self.walk_rings(number, random.sample([ring] * count + [2] * shared, count + shared))
-        if random.random() < 0.3:
+        if random.random() < 0.4:
             self.send(ADD, other, 12)
         self.send(JOIN, one, other)
         self.after_join(one, other)
@@ -1085,7 +1085,7 @@ GOOD_MOVES: dict[Callable[[Session], None], int] = {
     Session.swap_in_vain: 30,
     Session.join: 60,
     Session.part_and_join: 120,
-    Session.join_near_limit: 8,
+    Session.join_near_limit: 14,
     Session.join_terms_near_limit: 8,
     Session.swap_long: 15,
     Session.grow_on_two_sheets: 15,

@@ -55,6 +55,7 @@ SETUP_HAPPENINGS = (
     *(f"setup refused for {one} before {other}" for i, one in enumerate(FAULTS) for other in FAULTS[i + 1 :]),
     *(f"setup refused for {one} before {other}" for i, one in enumerate(PAIR_FAULTS) for other in PAIR_FAULTS[:i]),
     *(f"setup refused for {fault}: {byte:02X}" for fault in (FROM, TO, MASKED_NAME) for byte in NO_NAMES),
+    *(f"setup refused for {fault}, with {TO}" for fault in (FROM, TWICE)),
     *(f"setup refused at pair {number}" for number in range(1, MOST_PAIRS + 1)),
     *(f"setup refused at name {number}" for number in range(1, MOST_MASKED + 1)),
     *(f"setup refused for {count} {rows}" for rows in ("pairs", "names") for count in (9, 10, 255)),
@@ -152,6 +153,8 @@ def refused_names(layout: Layout, frame: bytes, place: int) -> Iterator[str]:
     yield from (f"setup refused for {first} before {other}" for other in {other for _, other in others} - {first})
     if first in (FROM, TO, MASKED_NAME):
         yield f"setup refused for {first}: {frame[place]:02X}"
+    if first in (FROM, TWICE) and (place + 1, TO) in others:
+        yield f"setup refused for {first}, with {TO}"
     if first in PAIR_FAULTS:
         yield f"setup refused at pair {(place - layout.pairs.place + 1) // 2}"
     if first == MASKED_NAME:
