@@ -7,28 +7,27 @@ use Rattle.terms.specs.declared.terms.contents.BodyFault.TheVariants.{NoBody}
 use Rattle.terms.specs.Bodies.{body_fault, add_fault, add_told, bodies_after, place_of}
 use Rattle.frame.specs.declared.fault.FrameFault.{FrameFault}
 use Rattle.frame.specs.declared.fault.FrameFault.TheVariants.{BadSetup}
-use Rattle.frame.specs.Frames.{body_place}
-use Rattle.server.specs.TermsSetup.{given}
+use Rattle.server.specs.TermsSetup.{behind, given}
 
 -- what the bodies behind those that are there give
-module _ (n : ℕ) (front left : List Str) (r : Result (List Str) FrameFault) (inv : given n front left ≡ r) where
+module _ (start n : ℕ) (front left : List Str) (r : Result (List Str) FrameFault) (inv : given start n front left ≡ r) where
   pub given_all : left ≡ [] → Ok front ≡ r
   unfolding given
-  given_all e = sym (ap (given n front) e) ∙ inv
+  given_all e = sym (ap (given start n front) e) ∙ inv
 
   module _ (b : Str) (back : List Str) (e : left ≡ b ∷ back) where
     with_fault : Option ℕ → Result (List Str) FrameFault
-    with_fault o = elim o [ None ↦ given n (front ++ b ∷ []) back | Some k ↦ Err (BadSetup (body_place front + k)) ]
+    with_fault o = elim o [ None ↦ given start n (front ++ b ∷ []) back | Some k ↦ Err (BadSetup (behind start front + k)) ]
 
     by_fault : with_fault (body_fault n b) ≡ r
     unfolding given with_fault
-    by_fault = sym (ap (given n front) e) ∙ inv
+    by_fault = sym (ap (given start n front) e) ∙ inv
 
-    pub given_on : body_fault n b ≡ None → given n (front ++ b ∷ []) back ≡ r
+    pub given_on : body_fault n b ≡ None → given start n (front ++ b ∷ []) back ≡ r
     unfolding with_fault
     given_on f = sym (ap with_fault f) ∙ by_fault
 
-    pub given_bad : (k : ℕ) → body_fault n b ≡ Some k → Err (BadSetup (body_place front + k)) ≡ r
+    pub given_bad : (k : ℕ) → body_fault n b ≡ Some k → Err (BadSetup (behind start front + k)) ≡ r
     unfolding with_fault
     given_bad k f = sym (ap with_fault f) ∙ by_fault
 

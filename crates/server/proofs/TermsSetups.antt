@@ -15,26 +15,25 @@ use Rattle.terms.proofs.Added.{push_sound}
 use Rattle.terms.proofs.Bodies.{bodies_told}
 use Rattle.frame.specs.declared.fault.FrameFault.{FrameFault}
 use Rattle.frame.specs.declared.fault.FrameFault.TheVariants.{BadSetup}
-use Rattle.frame.specs.Frames.{body_place}
-use Rattle.server.specs.TermsSetup.{given, GivesTerms, SetupsGiveTerms}
+use Rattle.server.specs.TermsSetup.{behind, given, GivesTerms, SetupsGiveTerms}
 use Rattle.server.specs.TermsSetup.GivesTerms.{whole, broken}
 
 -- what comes of the bodies
-data Given (n : ℕ) (bodies : List Str) : Result (List Str) FrameFault → Type 0 where
-  all : (ss : List Str) → ss ≡ bodies → sound_bodies_of n ss ≡ true → Given n bodies (Ok ss)
-  first : (front back : List Str) (b : Str) (k : ℕ) → bodies ≡ front ++ b ∷ back → All (IsBody n) front → BodyFaultAt n b k → Given n bodies (Err (BadSetup (body_place front + k)))
+data Given (start n : ℕ) (bodies : List Str) : Result (List Str) FrameFault → Type 0 where
+  all : (ss : List Str) → ss ≡ bodies → sound_bodies_of n ss ≡ true → Given start n bodies (Ok ss)
+  first : (front back : List Str) (b : Str) (k : ℕ) → bodies ≡ front ++ b ∷ back → All (IsBody n) front → BodyFaultAt n b k → Given start n bodies (Err (BadSetup (behind start front + k)))
 
 no_bodies : (n : ℕ) → sound_bodies_of n [] ≡ true
 unfolding sound_bodies_of
 no_bodies n = refl
 
-gives : (n : ℕ) (bodies front back : List Str) → bodies ≡ front ++ back → All (IsBody n) front → sound_bodies_of n front ≡ true → Given n bodies (given n front back)
+gives : (start n : ℕ) (bodies front back : List Str) → bodies ≡ front ++ back → All (IsBody n) front → sound_bodies_of n front ≡ true → Given start n bodies (given start n front back)
 unfolding given
-gives n bodies front [] e h s = all front (sym (e ∙ append-nil front)) s
-gives n bodies front (b ∷ back) e h s =
-    go (body_fault n b) refl (λ f. gives n bodies (front ++ b ∷ []) back (e ∙ sym (append_assoc front (b ∷ []) back)) (All-push (IsBody n) front b h ((bodies_told n b).0.0 f)) (push_sound n front b s (sym f)))
+gives start n bodies front [] e h s = all front (sym (e ∙ append-nil front)) s
+gives start n bodies front (b ∷ back) e h s =
+    go (body_fault n b) refl (λ f. gives start n bodies (front ++ b ∷ []) back (e ∙ sym (append_assoc front (b ∷ []) back)) (All-push (IsBody n) front b h ((bodies_told n b).0.0 f)) (push_sound n front b s (sym f)))
   where
-    go : (o : Option ℕ) → body_fault n b ≡ o → (body_fault n b ≡ None → Given n bodies (given n (front ++ b ∷ []) back)) → Given n bodies (elim o as (λ _. Result (List Str) FrameFault) [ None ↦ given n (front ++ b ∷ []) back | Some k ↦ Err (BadSetup (body_place front + k)) ])
+    go : (o : Option ℕ) → body_fault n b ≡ o → (body_fault n b ≡ None → Given start n bodies (given start n (front ++ b ∷ []) back)) → Given start n bodies (elim o as (λ _. Result (List Str) FrameFault) [ None ↦ given start n (front ++ b ∷ []) back | Some k ↦ Err (BadSetup (behind start front + k)) ])
     go None f g = g f
     go (Some k) f g = first front back b k e h ((bodies_told n b).1 k f)
 
@@ -47,16 +46,16 @@ spelled_again n (s ∷ ss) e =
     let b = is_body n s c.0 in
     ap₂ (λ p ps. p ∷ ps) (ap term_bytes (body_is n s b.0 b.1) ∙ (read_is_term n s b.0 b.1).0) (spelled_again n ss c.1)
 
-whole_terms : (bodies : List Str) → sound_bodies_of (length bodies) bodies ≡ true → GivesTerms bodies (Ok (terms_in (length bodies) bodies))
-whole_terms bodies e =
+whole_terms : (start : ℕ) (bodies : List Str) → sound_bodies_of (length bodies) bodies ≡ true → GivesTerms start bodies (Ok (terms_in (length bodies) bodies))
+whole_terms start bodies e =
     let n = length bodies in
     let none : n - n ≡ 0 = omega arith in
     let alone : terms_in n bodies ≡ map (body_in n) bodies = ap (λ k. map (body_in n) bodies ++ replicate k nil) none ∙ append-nil (map (body_in n) bodies) in
     whole (terms_in n bodies) (ap (map term_bytes) alone ∙ spelled_again n bodies e) (terms_sound n bodies (omega arith) e)
 
 pub setups_give_terms : SetupsGiveTerms
-setups_give_terms bodies = go (given (length bodies) [] bodies) (gives (length bodies) bodies [] bodies refl (All-nil (IsBody (length bodies))) (no_bodies (length bodies)))
+setups_give_terms start bodies = go (given start (length bodies) [] bodies) (gives start (length bodies) bodies [] bodies refl (All-nil (IsBody (length bodies))) (no_bodies (length bodies)))
   where
-    go : (r : Result (List Str) FrameFault) → Given (length bodies) bodies r → GivesTerms bodies (elim r as (λ _. Result (List Term) FrameFault) [ Ok ss ↦ Ok (terms_in (length bodies) ss) | Err f ↦ Err f ])
-    go _ (all ss same sound) = subst (λ ss. GivesTerms bodies (Ok (terms_in (length bodies) ss))) (sym same) (whole_terms bodies (subst (λ ss. sound_bodies_of (length bodies) ss ≡ true) same sound))
+    go : (r : Result (List Str) FrameFault) → Given start (length bodies) bodies r → GivesTerms start bodies (elim r as (λ _. Result (List Term) FrameFault) [ Ok ss ↦ Ok (terms_in (length bodies) ss) | Err f ↦ Err f ])
+    go _ (all ss same sound) = subst (λ ss. GivesTerms start bodies (Ok (terms_in (length bodies) ss))) (sym same) (whole_terms start bodies (subst (λ ss. sound_bodies_of (length bodies) ss ≡ true) same sound))
     go _ (first front back b k e h g) = broken front back b k e h g

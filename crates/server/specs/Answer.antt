@@ -9,13 +9,14 @@ use Rattle.bench.specs.Calls.{Outcome, answered, opened, added, withdrawn, relea
 use Rattle.bench.specs.Swap.{swapped}
 use Rattle.bench.specs.Join.{joined}
 use Rattle.bench.specs.Print.{printed}
+use Rattle.bench.specs.Look.{looked}
 use Rattle.bench.specs.Table.{pages_of, on_sheet, pages_after, page_at, standing_of}
 use Rattle.bench.specs.declared.sheet.Standing.{Standing}
 use Rattle.frame.specs.declared.fault.FrameFault.{FrameFault}
 use Rattle.frame.specs.declared.fault.FrameFault.TheVariants.{Malformed}
 use Rattle.frame.specs.Refusals.{frame_refusal}
 use Rattle.frame.specs.Frames.{FrameView}
-use Rattle.frame.specs.Frames.FrameView.{setup, open_sheet, add, swap, withdraw, join, release, reopen, print}
+use Rattle.frame.specs.Frames.FrameView.{setup, open_sheet, add, swap, withdraw, join, release, reopen, print, look}
 use Rattle.frame.specs.Reading.{frame_told}
 use Rattle.server.specs.declared.server.Server.{Server}
 use Rattle.server.specs.Text.{refusal_line, call_text, print_text, text_limit}
@@ -50,17 +51,10 @@ sheet_reply m s o = record { text = call_text (answered o); model = record { sys
 abbrev pub print_reply : Model → Outcome → Reply
 print_reply m o = record { text = print_text (answered o); model = m }
 
--- the standing of the sheet that a frame names, if there is one
-abbrev pub named_standing : List Page → FrameView → Option Standing
-named_standing ps (setup pairs names system) = None
-named_standing ps (open_sheet s state) = standing_of (page_at ps s)
-named_standing ps (add s step) = standing_of (page_at ps s)
-named_standing ps (swap s place) = standing_of (page_at ps s)
-named_standing ps (withdraw s) = standing_of (page_at ps s)
-named_standing ps (join s e) = standing_of (page_at ps s)
-named_standing ps (release s) = standing_of (page_at ps s)
-named_standing ps (reopen s) = standing_of (page_at ps s)
-named_standing ps (print s) = standing_of (page_at ps s)
+-- the standing of the sheet that a frame names first, if there is one
+abbrev pub named_standing : List Page → Option ℕ → Option Standing
+named_standing ps None = None
+named_standing ps (Some s) = standing_of (page_at ps s)
 
 abbrev pub system_of : Model → Transitions
 system_of m = layered_transitions m.system
@@ -78,6 +72,7 @@ frame_reply m (join s e) = sheet_reply m s (on_sheet m.pages s (joined (system_o
 frame_reply m (release s) = sheet_reply m s (on_sheet m.pages s (released (system_of m)))
 frame_reply m (reopen s) = sheet_reply m s (on_sheet m.pages s (reopened (system_of m)))
 frame_reply m (print s) = print_reply m (on_sheet m.pages s (printed (system_of m) text_limit))
+frame_reply m (look s k) = sheet_reply m s (on_sheet m.pages s (looked (system_of m) k 256))
 
 -- a frame's bytes
 abbrev pub bytes_reply : Model → Result FrameView FrameFault → Reply

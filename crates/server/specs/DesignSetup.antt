@@ -1,5 +1,5 @@
 -- The design that a setup makes: terms or a net. Assumes nothing.
-use Rattle.std.specs.Prelude.{Ok, Err, Result}
+use Rattle.std.specs.Prelude.{ℕ, Ok, Err, Result}
 use Rattle.systems.specs.declared.terms_or_net.TermsOrNet.{TermsOrNet}
 use Rattle.systems.specs.Design.{Design, design_of}
 use Rattle.systems.specs.Design.Design.{of_terms, of_net}
@@ -9,9 +9,10 @@ use Rattle.frame.specs.Frames.SystemView.{terms, net}
 use Rattle.server.specs.Setup.{net_told}
 use Rattle.server.specs.TermsSetup.{terms_told}
 
-abbrev pub design_told : SystemView → Result Design FrameFault
-design_told (terms bodies) = elim (terms_told bodies) [ Ok ds ↦ Ok (of_terms ds) | Err f ↦ Err f ]
-design_told (net events) = elim (net_told events) [ Ok es ↦ Ok (of_net es) | Err f ↦ Err f ]
+-- the definitions or events start at a place of the frame
+abbrev pub design_told : ℕ → SystemView → Result Design FrameFault
+design_told start (terms bodies) = elim (terms_told start bodies) [ Ok ds ↦ Ok (of_terms ds) | Err f ↦ Err f ]
+design_told start (net events) = elim (net_told start events) [ Ok es ↦ Ok (of_net es) | Err f ↦ Err f ]
 
 abbrev pub design_view : Result TermsOrNet FrameFault → Result Design FrameFault
 design_view (Ok s) = Ok (design_of s)

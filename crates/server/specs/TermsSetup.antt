@@ -11,16 +11,20 @@ use Rattle.terms.specs.Bodies.{body_fault, terms_in}
 use Rattle.terms.specs.BodyLaws.{IsBody, BodyFaultAt}
 use Rattle.frame.specs.declared.fault.FrameFault.{FrameFault}
 use Rattle.frame.specs.declared.fault.FrameFault.TheVariants.{BadSetup}
-use Rattle.frame.specs.Frames.{body_place}
+use Rattle.frame.specs.Frames.{definitions}
+
+-- the place of a body behind others, where the first definition starts at a place of the frame
+abbrev pub behind : ℕ → List Str → ℕ
+behind start front = start + length (definitions front) + 1
 
 -- the bodies behind those that are there, for n definitions in all
-unfoldable pub given : ℕ → List Str → List Str → Result (List Str) FrameFault
-given n front [] = Ok front
-given n front (b ∷ bs) = elim (body_fault n b) [ None ↦ given n (front ++ b ∷ []) bs | Some k ↦ Err (BadSetup (body_place front + k)) ]
+unfoldable pub given : ℕ → ℕ → List Str → List Str → Result (List Str) FrameFault
+given start n front [] = Ok front
+given start n front (b ∷ bs) = elim (body_fault n b) [ None ↦ given start n (front ++ b ∷ []) bs | Some k ↦ Err (BadSetup (behind start front + k)) ]
 
 -- the terms of a setup with these bodies; else the place of the first byte that fits no body
-abbrev pub terms_told : List Str → Result (List Term) FrameFault
-terms_told bodies = elim (given (length bodies) [] bodies) [ Ok ss ↦ Ok (terms_in (length bodies) ss) | Err f ↦ Err f ]
+abbrev pub terms_told : ℕ → List Str → Result (List Term) FrameFault
+terms_told start bodies = elim (given start (length bodies) [] bodies) [ Ok ss ↦ Ok (terms_in (length bodies) ss) | Err f ↦ Err f ]
 
 -- what was made, by its definitions
 abbrev pub terms_view : Result Terms FrameFault → Result (List Term) FrameFault
@@ -28,9 +32,9 @@ terms_view (Ok t) = Ok (terms_of t)
 terms_view (Err f) = Err f
 
 -- What a setup gives: the terms that its bodies spell, or the place of the first byte that fits no body, in the first string that is none.
-pub data GivesTerms (bodies : List Str) : Result (List Term) FrameFault → Type 0 where
-  whole : (ds : List Term) → map term_bytes ds ≡ bodies → sound_bodies (length ds) ds ≡ true → GivesTerms bodies (Ok ds)
-  broken : (front back : List Str) (b : Str) (k : ℕ) → bodies ≡ front ++ b ∷ back → All (IsBody (length bodies)) front → BodyFaultAt (length bodies) b k → GivesTerms bodies (Err (BadSetup (body_place front + k)))
+pub data GivesTerms (start : ℕ) (bodies : List Str) : Result (List Term) FrameFault → Type 0 where
+  whole : (ds : List Term) → map term_bytes ds ≡ bodies → sound_bodies (length ds) ds ≡ true → GivesTerms start bodies (Ok ds)
+  broken : (front back : List Str) (b : Str) (k : ℕ) → bodies ≡ front ++ b ∷ back → All (IsBody (length bodies)) front → BodyFaultAt (length bodies) b k → GivesTerms start bodies (Err (BadSetup (behind start front + k)))
 
 abbrev pub SetupsGiveTerms : Type 0
-SetupsGiveTerms = (bodies : List Str) → GivesTerms bodies (terms_told bodies)
+SetupsGiveTerms = (start : ℕ) (bodies : List Str) → GivesTerms start bodies (terms_told start bodies)

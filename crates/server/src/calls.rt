@@ -1,6 +1,6 @@
 // The calls of frames, each on the step system and the bench, with its answer as text.
 ghost use Rattle.std.specs.Prelude.{◌≡◌};
-ghost use Rattle.frame.specs.Frames.{WithinRules};
+ghost use Rattle.frame.specs.Frames.{WithinRules, sheet_of};
 ghost use Rattle.frame.specs.Reading.{frame_view};
 ghost use Rattle.server.specs.Text.{Answers};
 ghost use Rattle.server.specs.Answer.{model_of, named_standing, frame_reply};
@@ -67,6 +67,12 @@ impl Server {
             (Some(Standing::Released), Frame::Print { sheet }) => {
                 return Ok(self.bench.print(&self.system, sheet, out)?)
             }
+            (Some(Standing::Open), Frame::Look { sheet, count }) => {
+                self.bench.look(&self.system, sheet, count, &mut end)?
+            }
+            (Some(Standing::Released), Frame::Look { sheet, count }) => {
+                self.bench.look(&self.system, sheet, count, &mut end)?
+            }
             (Some(_), _) => return Err(BenchFault::WrongStanding(1).into()),
             (None, _) => return Err(BenchFault::NoSheet(1).into()),
         };
@@ -75,19 +81,9 @@ impl Server {
 
     // The standing of the sheet that a frame names, if there is such a sheet.
     fn standing(&self, frame: &Frame<'_>) -> Option<Standing>
-        ensures { result ≡ named_standing (model_of self.now).pages (frame_view frame.now) }
+        ensures { result ≡ named_standing (model_of self.now).pages (sheet_of (frame_view frame.now)) }
     {
-        let sheet = match frame {
-            Frame::Setup(_) => return None,
-            Frame::Open { sheet, .. } => *sheet,
-            Frame::Add { sheet, .. } => *sheet,
-            Frame::Swap { sheet, .. } => *sheet,
-            Frame::Withdraw { sheet } => *sheet,
-            Frame::Join { sheet, .. } => *sheet,
-            Frame::Release { sheet } => *sheet,
-            Frame::Reopen { sheet } => *sheet,
-            Frame::Print { sheet } => *sheet,
-        };
+        let sheet = frame.sheet()?;
         self.bench.standing(sheet)
     }
 }

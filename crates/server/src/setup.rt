@@ -2,7 +2,9 @@
 ghost use Rattle.std.specs.Prelude.{◌≡◌, []};
 ghost use Rattle.systems.specs.Design.{design_of};
 ghost use Rattle.frame.specs.Frames.{WithinRules};
-ghost use Rattle.frame.specs.Reading.{setup_view, system_view};
+ghost use Rattle.actions.specs.Contents.{names_of, pairs_of};
+ghost use Rattle.frame.specs.Reading.{setup_view};
+ghost use Rattle.frame.specs.Systems.{system_view};
 ghost use Rattle.server.specs.Layered.{layered_of};
 ghost use Rattle.server.specs.LayeredSetup.{layered_told, layered_view};
 
@@ -35,7 +37,14 @@ pub(crate) fn bare(system: TermsOrNet) -> Mask<Renaming<TermsOrNet>>
 // Makes the terms or the net with its renaming and its mask, or refuses the first body or event that breaks a rule.
 pub(crate) fn build(setup: &Setup<'_>) -> Result<Mask<Renaming<TermsOrNet>>, FrameFault>
     requires { WithinRules (setup_view setup.now) }
-    ensures { layered_view result ≡ layered_told setup.now.pairs.now setup.now.names.now (system_view setup.now.system) }
+    ensures { layered_view result ≡ layered_told (pairs_of setup.now.pairs) (names_of setup.now.names) (system_view setup.now.system) }
 {
-    Ok(bare(design::build(&setup.system)?))
+    let system = Renaming {
+        system: design::build(&setup.system)?,
+        pairs: setup.pairs,
+    };
+    Ok(Mask {
+        system,
+        names: setup.names,
+    })
 }

@@ -1,7 +1,7 @@
 // The terms of a setup.
 ghost use Rattle.std.specs.Prelude.{◌≡◌, ◌≤◌, length};
 ghost use Rattle.terms.specs.Bodies.{definition_limit};
-ghost use Rattle.frame.specs.Reading.{bodies_of};
+ghost use Rattle.frame.specs.Systems.{bodies_of};
 ghost use Rattle.server.specs.TermsSetup.{terms_told, terms_view};
 
 use frame::definition::Definitions;
@@ -11,7 +11,7 @@ use terms::terms::Terms;
 // Makes the terms, or refuses the first byte that fits no body.
 pub(crate) fn build(definitions: &Definitions<'_>) -> Result<Terms, FrameFault>
     requires { length (bodies_of definitions.now) ≤ definition_limit }
-    ensures { terms_view result ≡ terms_told (bodies_of definitions.now) }
+    ensures { terms_view result ≡ terms_told definitions.now.place (bodies_of definitions.now) }
 {
     let mut terms = Terms::new(definitions.count);
     for definition in definitions.iter() {

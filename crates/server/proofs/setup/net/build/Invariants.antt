@@ -13,5 +13,5 @@ invariant-loop-i l =
       finite : (goal.iterator-loop-i).is_finite l.i-iterator;
       end : (zip_first l.i-iterator).end ≡ 48;
       left : (zip_second l.i-iterator).rest.now ≡ drop (17 * i) bytes;
-      so_far : built bytes (events_of l.net) i (48 - i) ≡ net_told bytes;
+      so_far : built l.events.place bytes (events_of l.net) i (48 - i) ≡ net_told l.events.place bytes;
     }
