@@ -2,7 +2,15 @@
 use Rattle.std.specs.Prelude.{◌≡◌, ℕ, cond, [], ◌∷◌, ◌++◌, take, Some, Option, ◌==◌, nat_le}
 use Rattle.byte_strings.specs.Buffer.{Str}
 use Rattle.server.specs.Text.{text_limit}
-use Rattle.server.specs.Answer.{Model, line_reply, reply_length, reply_buffer, reply_model}
+use Rattle.server.specs.Answer.{Model, model_of, line_reply, reply_length, reply_buffer, reply_model}
+use Rattle.server.specs.declared.session.Session.{Session}
+
+-- the server of a session, and what it keeps of the line that is being read
+abbrev pub session_model : Session → Model
+session_model s = model_of s.server
+
+abbrev pub kept_line : Session → Str
+kept_line s = s.line
 
 -- how much of a line is kept
 abbrev pub line_limit : ℕ

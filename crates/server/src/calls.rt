@@ -26,17 +26,14 @@ impl Server {
     {
         // What an accepted call answers is the first n bytes, but for a printed text.
         let mut end = [0u8; 256];
-        // The call and the sheet's standing decide together. By the frames themselves: each has data of its own.
+        // The call and the sheet's standing decide together.
+        // By the frames themselves and no table of functions: each has data of its own.
         let n = match (self.standing(&frame), frame) {
             (_, Frame::Setup(setup)) => {
                 self.system = setup::build(&setup)?;
                 0
             }
-            (Some(Standing::Blank), Frame::Open { sheet, state }) => {
-                self.bench.open_sheet(&self.system, sheet, state)?;
-                0
-            }
-            (Some(Standing::Open), Frame::Open { sheet, state }) => {
+            (Some(Standing::Blank | Standing::Open), Frame::Open { sheet, state }) => {
                 self.bench.open_sheet(&self.system, sheet, state)?;
                 0
             }
@@ -67,10 +64,7 @@ impl Server {
             (Some(Standing::Released), Frame::Print { sheet }) => {
                 return Ok(self.bench.print(&self.system, sheet, out)?)
             }
-            (Some(Standing::Open), Frame::Look { sheet, count }) => {
-                self.bench.look(&self.system, sheet, count, &mut end)?
-            }
-            (Some(Standing::Released), Frame::Look { sheet, count }) => {
+            (Some(Standing::Open | Standing::Released), Frame::Look { sheet, count }) => {
                 self.bench.look(&self.system, sheet, count, &mut end)?
             }
             (Some(_), _) => return Err(BenchFault::WrongStanding(1).into()),

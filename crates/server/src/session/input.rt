@@ -3,8 +3,7 @@ ghost use Rattle.std.specs.Prelude.{◌≡◌, ◌≤◌, not, [], length, take,
 ghost use Rattle.byte_strings.specs.Buffer.{Str};
 ghost use Rattle.bench.specs.Page.{blank_page};
 ghost use Rattle.systems.specs.Design.Design.{of_terms};
-ghost use Rattle.server.specs.Answer.{model_of};
-ghost use Rattle.server.specs.Session.{line_limit, taken_length, taken_buffer, taken_model, taken_line};
+ghost use Rattle.server.specs.Session.{session_model, kept_line, line_limit, taken_length, taken_buffer, taken_model, taken_line};
 
 use crate::server::Server;
 use crate::session::Session;
@@ -13,8 +12,8 @@ use byte_strings::held::Held;
 impl Session {
     // A new server, and an empty line.
     pub fn new() -> Session
-        ensures model { model_of result.server ≡ record { system = record { design = of_terms []; pairs = []; names = [] }; pages = replicate 4 blank_page } }
-        ensures line { result.line ≡ [] }
+        ensures model { session_model result ≡ record { system = record { design = of_terms []; pairs = []; names = [] }; pages = replicate 4 blank_page } }
+        ensures line { kept_line result ≡ [] }
     {
         Session {
             server: Server::new(),
@@ -25,10 +24,10 @@ impl Session {
     // Takes a byte of input. A line end answers the line: the text stands at the front of `out`, and its length is the answer.
     // None, and nothing is done, where an answer is due and `out` has no room for the longest text.
     pub fn take(&mut self, byte: u8, out: &mut [u8]) -> Option<usize>
-        ensures answer { (l : Str) → self.old.line ≡ take line_limit l → result ≡ taken_length (model_of self.old.server) l byte (length out.old) }
-        ensures buffer { (l : Str) → self.old.line ≡ take line_limit l → out.new ≡ taken_buffer (model_of self.old.server) l byte out.old }
-        ensures model { (l : Str) → self.old.line ≡ take line_limit l → model_of self.new.server ≡ taken_model (model_of self.old.server) l byte (length out.old) }
-        ensures line { (l : Str) → self.old.line ≡ take line_limit l → self.new.line ≡ take line_limit (taken_line l byte (length out.old)) }
+        ensures answer { (l : Str) → kept_line self.old ≡ take line_limit l → result ≡ taken_length (session_model self.old) l byte (length out.old) }
+        ensures buffer { (l : Str) → kept_line self.old ≡ take line_limit l → out.new ≡ taken_buffer (session_model self.old) l byte out.old }
+        ensures model { (l : Str) → kept_line self.old ≡ take line_limit l → session_model self.new ≡ taken_model (session_model self.old) l byte (length out.old) }
+        ensures line { (l : Str) → kept_line self.old ≡ take line_limit l → kept_line self.new ≡ take line_limit (taken_line l byte (length out.old)) }
         ensures bound { IfSome result (λ n. n ≤ 5222) }
     {
         if byte != b'\n' {
@@ -42,7 +41,7 @@ impl Session {
 
     // Whether a line was begun that has not ended.
     pub fn pending(&self) -> bool
-        ensures { result ≡ not (length self.now.line == 0) }
+        ensures { result ≡ not (length (kept_line self.now) == 0) }
     {
         !self.line.items().is_empty()
     }
