@@ -1,13 +1,24 @@
 -- Terms built one body at a time. Assumes nothing.
-use Rattle.std.proofs.Common.{◌≡◌, ℕ, ◌+◌, ◌<◌, nat_lt, List, [], ◌∷◌, ◌++◌, length, Some, None, Ok, Err, Option, Result, sym, refl, ap, ◌∙◌}
+use Rattle.std.proofs.Common.{◌≡◌, ℕ, ◌+◌, ◌<◌, nat_lt, List, [], ◌∷◌, ◌++◌, length, Some, None, Ok, Err, Option, Result, sym, refl, ap, ◌∙◌, arith, length-append, append-nil}
 use Rattle.std.proofs.lemmas.Bool.{cond-true, lt-ltb}
 use Rattle.byte_strings.specs.Buffer.{Str}
 use Rattle.terms.specs.declared.terms.contents.BodyFault.{BodyFault}
 use Rattle.terms.specs.declared.terms.contents.BodyFault.TheVariants.{NoBody}
 use Rattle.terms.specs.Bodies.{body_fault, add_fault, add_told, bodies_after, place_of}
+use Rattle.frame.specs.Frames.{definitions}
+use Rattle.frame.proofs.Places.{definitions-append}
 use Rattle.frame.specs.declared.fault.FrameFault.{FrameFault}
 use Rattle.frame.specs.declared.fault.FrameFault.TheVariants.{BadSetup}
 use Rattle.server.specs.TermsSetup.{behind, given}
+
+-- the first body stands behind its length, and the next one behind it and a length
+pub behind_none : (start : ℕ) → behind start [] ≡ start + 1
+unfolding definitions
+behind_none start = omega arith
+
+pub behind_more : (start : ℕ) (front : List Str) (body : Str) → behind start (front ++ body ∷ []) ≡ behind start front + (length body + 1)
+unfolding definitions
+behind_more start front body = omega (arith, ap length (definitions-append front (body ∷ [])), length-append (definitions front) (length body ∷ (body ++ [])), ap length (append-nil body))
 
 -- what the bodies behind those that are there give
 module _ (start n : ℕ) (front left : List Str) (r : Result (List Str) FrameFault) (inv : given start n front left ≡ r) where

@@ -48,6 +48,10 @@ setup_reply m (Err f) = refused m f
 abbrev pub sheet_reply : Model → ℕ → Outcome → Reply
 sheet_reply m s o = record { text = call_text (answered o); model = record { system = m.system; pages = pages_after o m.pages s } }
 
+-- a look and a print change nothing
+abbrev pub look_reply : Model → Outcome → Reply
+look_reply m o = record { text = call_text (answered o); model = m }
+
 abbrev pub print_reply : Model → Outcome → Reply
 print_reply m o = record { text = print_text (answered o); model = m }
 
@@ -72,7 +76,7 @@ frame_reply m (join s e) = sheet_reply m s (on_sheet m.pages s (joined (system_o
 frame_reply m (release s) = sheet_reply m s (on_sheet m.pages s (released (system_of m)))
 frame_reply m (reopen s) = sheet_reply m s (on_sheet m.pages s (reopened (system_of m)))
 frame_reply m (print s) = print_reply m (on_sheet m.pages s (printed (system_of m) text_limit))
-frame_reply m (look s k) = sheet_reply m s (on_sheet m.pages s (looked (system_of m) k 256))
+frame_reply m (look s k) = look_reply m (on_sheet m.pages s (looked (system_of m) k 256))
 
 -- a frame's bytes
 abbrev pub bytes_reply : Model → Result FrameView FrameFault → Reply

@@ -57,7 +57,10 @@ impl Server {
         // A lent buffer and a length, as lines are read without a heap.
         let mut bytes = [0u8; FRAME_LIMIT];
         match hexadecimal::read(line, &mut bytes) {
-            Ok(n) => self.call(Frame::read(&bytes[0..n])?, out),
+            Ok(n) => match Frame::read(&bytes[0..n]) {
+                Ok(frame) => self.call(&frame, out),
+                Err(fault) => Err(fault.into()),
+            },
             // It fits, so no `try_from`, and is known to fit of this answer only, so no `map_err`: at most 1024 bytes are read.
             Err(place) => Err(FrameFault::Malformed(place as u16).into()),
         }

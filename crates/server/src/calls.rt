@@ -17,55 +17,55 @@ impl Server {
     // Performs the call that a frame names, and writes what it answers over the front of `out`.
     pub(crate) fn call(
         &mut self,
-        frame: Frame<'_>,
+        frame: &Frame<'_>,
         out: &mut [u8; TEXT_LIMIT],
     ) -> Result<usize, Fault>
-        requires { WithinRules (frame_view frame) }
-        ensures answer { Answers (frame_reply (model_of self.old) (frame_view frame.entry)).text result out.old out.new }
-        ensures model { model_of self.new ≡ (frame_reply (model_of self.old) (frame_view frame.entry)).model }
+        requires { WithinRules (frame_view frame.now) }
+        ensures answer { Answers (frame_reply (model_of self.old) (frame_view frame.now)).text result out.old out.new }
+        ensures model { model_of self.new ≡ (frame_reply (model_of self.old) (frame_view frame.now)).model }
     {
         // What an accepted call answers is the first n bytes, but for a printed text.
         let mut end = [0u8; 256];
         // The call and the sheet's standing decide together.
         // By the frames themselves and no table of functions: each has data of its own.
-        let n = match (self.standing(&frame), frame) {
+        let n = match (self.standing(frame), frame) {
             (_, Frame::Setup(setup)) => {
-                self.system = setup::build(&setup)?;
+                self.system = setup::build(setup)?;
                 0
             }
             (Some(Standing::Blank | Standing::Open), Frame::Open { sheet, state }) => {
-                self.bench.open_sheet(&self.system, sheet, state)?;
+                self.bench.open_sheet(&self.system, *sheet, state)?;
                 0
             }
             (Some(Standing::Open), Frame::Add { sheet, step }) => {
-                self.bench.add(&self.system, sheet, step, &mut end)?
+                self.bench.add(&self.system, *sheet, step, &mut end)?
             }
             (Some(Standing::Open), Frame::Swap { sheet, place }) => {
-                self.bench.swap(&self.system, sheet, place)?;
+                self.bench.swap(&self.system, *sheet, *place)?;
                 0
             }
             (Some(Standing::Open), Frame::Withdraw { sheet }) => {
-                self.bench.withdraw(&self.system, sheet, &mut end)?
+                self.bench.withdraw(&self.system, *sheet, &mut end)?
             }
             (Some(Standing::Open), Frame::Join { sheet, other }) => {
-                let (len, shared) = self.bench.join(&self.system, sheet, other)?;
+                let (len, shared) = self.bench.join(&self.system, *sheet, *other)?;
                 end[0] = len;
                 end[1] = shared;
                 2
             }
             (Some(Standing::Open), Frame::Release { sheet }) => {
-                self.bench.release(&self.system, sheet)?;
+                self.bench.release(&self.system, *sheet)?;
                 0
             }
             (Some(Standing::Released), Frame::Reopen { sheet }) => {
-                self.bench.reopen(&self.system, sheet)?;
+                self.bench.reopen(&self.system, *sheet)?;
                 0
             }
             (Some(Standing::Released), Frame::Print { sheet }) => {
-                return Ok(self.bench.print(&self.system, sheet, out)?)
+                return Ok(self.bench.print(&self.system, *sheet, out)?)
             }
             (Some(Standing::Open | Standing::Released), Frame::Look { sheet, count }) => {
-                self.bench.look(&self.system, sheet, count, &mut end)?
+                self.bench.look(&self.system, *sheet, *count, &mut end)?
             }
             (Some(_), _) => return Err(BenchFault::WrongStanding(1).into()),
             (None, _) => return Err(BenchFault::NoSheet(1).into()),

@@ -42,7 +42,7 @@ returns-in_err-print-in-Some-Released-Print-clause-answer c =
 pub returns-clause-answer : goal.returns-clause-answer
 returns-clause-answer c =
     let m = model_of c.args.self.now in
-    let text : (frame_reply (model_of c.args.self.now) (frame_view c.args.frame)).text ≡ line (0 ∷ take (c.match-frame.n - 0) c.match-frame.end) =
+    let text : (frame_reply (model_of c.args.self.now) (frame_view c.args.frame.now)).text ≡ line (0 ∷ take (c.match-frame.n - 0) c.match-frame.end) =
     elim c.match-frame.branch [
       | in_default-Setup+in_ok-self-in_default-Setup w ↦ let h = w.in_ok-self-in_default-Setup.ensures in rw (w.in_default-Setup.is-1, w.n-is) (search rules)
       | in-Some-Blank-Open+in_ok-open_sheet-in-Some-Blank-Open w ↦ rw (w.in-Some-Blank-Open.is-1, w.n-is) (search rules)

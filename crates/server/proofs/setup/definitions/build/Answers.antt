@@ -4,10 +4,9 @@ use Rattle.frame.specs.declared.fault.FrameFault.{FrameFault}
 use Rattle.frame.specs.declared.fault.FrameFault.TheVariants.{BadSetup}
 use Rattle.frame.specs.Parts.{bodies}
 use Rattle.frame.specs.Systems.{bodies_of}
-use Rattle.frame.proofs.Places.{first_place, next_place}
 use Rattle.terms.specs.Bodies.{terms_in, add_told, bodies_after, place_of}
 use Rattle.server.specs.TermsSetup.{behind, given}
-use Rattle.server.proofs.Given.{given_all, given_on, given_bad, taken_fault, taken_after, refused_fault}
+use Rattle.server.proofs.Given.{behind_none, behind_more, given_all, given_on, given_bad, taken_fault, taken_after, refused_fault}
 use Rattle.server.proofs.setup.definitions.build.Goals as goal
 
 pub loop-definition-init : goal.loop-definition-init
@@ -23,7 +22,7 @@ loop-definition-init c =
       can = tt;
       finite = tt;
       count = omega (arith, c.new-terms.ensures.count, c.args.definitions.now.whole, c.requires);
-      place = omega (arith, first_place, ap (behind start) none, ap (λ j. j.place) same, c.iter-definition-items.ensures.place);
+      place = omega (arith, behind_none start, ap (behind start) none, ap (λ j. j.place) same, c.iter-definition-items.ensures.place);
       left = omega (arith, ap length none, ap length all);
       so_far = ap₂ (given start (length (bodies_of c.args.definitions.now))) none all;
     }
@@ -56,7 +55,7 @@ loop-definition-preserved c =
       can = tt;
       finite = tt;
       count = c.add.ensures.count ∙ inv.count;
-      place = omega (arith, ap (behind start) after, next_place ss s, step.next, step.stands, inv.place);
+      place = omega (arith, ap (behind start) after, behind_more start ss s, step.next, step.stands, inv.place);
       left = omega (arith, ap length after, length-append ss (s ∷ []), inv.left, ap length step.first);
       so_far = ap (λ ss. given start n ss (bodies c.next.new.self.count c.next.new.self.rest.now)) after
           ∙ given_on start n ss (bodies c.loop-definition.definition-iterator.count c.loop-definition.definition-iterator.rest.now) _ inv.so_far s (bodies c.next.new.self.count c.next.new.self.rest.now) step.first (taken_fault n ss s room told);

@@ -15,8 +15,8 @@ returns-in_err-map_err c =
     let i = (zip_first c.loop-i.i-iterator).start in
     let lt : i < 48 = omega (arith, step.0.1.0, inv.end) in
     let failed : is_err c.add.result ≡ true = search rules in
-    let told : net_view c.from_residual.result ≡ Err (BadSetup c.place-place.result) = search rules in
-    told ∙ ap (λ n. Err (BadSetup n)) (c.place-place.ensures ∙ ap (λ k. c.args.events.now.place + 17 * k) step.0.1.1)
+    let told : net_view c.from_residual.result ≡ Err (BadSetup c.place_of-place.result) = search rules in
+    told ∙ ap (λ n. Err (BadSetup n)) (c.place_of-place.ensures ∙ ap (λ k. c.args.events.now.place + 17 * k) step.0.1.1)
     ∙ built_bad c.args.events.now.place c.args.events.now.bytes.now (zip_second c.loop-i.i-iterator).rest.now (events_of c.loop-i.net) i _ inv.so_far inv.left c.in-Some.event lt step.1.0 c.add.result c.add.ensures.answer failed
 
 pub loop-i-preserved : goal.loop-i-preserved
