@@ -1,7 +1,5 @@
 pub mod Bodies
-pub mod Parts
+pub mod Behind
 pub mod Calls
 pub mod Numbers
-pub mod Layouts
 pub mod Places
-pub mod Format

@@ -1,9 +1,11 @@
 -- What reading a frame promises, in words of the format alone. Assumes nothing.
-use Rattle.std.specs.Prelude.{◌≡◌, ℕ, ◌<◌, ◌≤◌, ◌↔◌, List, [], ◌∷◌, ◌++◌, length, take, drop, Ok, Err, ◌≢◌}
-use Rattle.std.specs.List.{All}
+use Rattle.std.specs.Prelude.{◌≡◌, ◌≢◌, ℕ, ◌+◌, ◌*◌, ◌<◌, ◌≤◌, true, false, ◌↔◌, List, ◌∷◌, ◌++◌, length, take, drop, Ok, Err, slice_index}
+use Rattle.std.specs.List.{All, Contains}
+use Rattle.actions.specs.declared.pairs.Pair.{Pair}
+use Rattle.actions.specs.Action.{is_name}
 use Rattle.frame.specs.declared.fault.FrameFault.TheVariants.{Malformed, BadSetup}
-use Rattle.frame.specs.Frames.{SystemView, FrameView, bytes_of, LaidOut, Accepted, Begins, Many, frame_limit, body_place}
-use Rattle.frame.specs.Frames.SystemView.{terms}
+use Rattle.frame.specs.Frames.{SystemView, FrameView, count_of, bytes_of, LaidOut, PairsAllowed, NamesAllowed, Many, Accepted, Begins, sound_pairs, all_names, pair_limit, name_limit, frame_limit, pair_place, names_place, name_place, count_place, body_place, event_place}
+use Rattle.frame.specs.Frames.SystemView.{terms, net}
 use Rattle.frame.specs.Frames.FrameView.{setup}
 use Rattle.frame.specs.Reading.{frame_told}
 
@@ -25,16 +27,49 @@ pub record MalformedAt (s : List ℕ) (place : ℕ) : Type 0 where
 abbrev pub PlacesMalformed : Type 0
 PlacesMalformed = (s : List ℕ) (place : ℕ) → AreBytes s → length s ≤ frame_limit → frame_told s ≡ Err (Malformed place) → MalformedAt s place
 
--- A setup is bad at its kind, or it is laid out and bad at the first count that is not allowed.
+-- A string is the bytes of a setup that is laid out.
+abbrev pub IsSetup : List ℕ → List Pair → List ℕ → SystemView → Type 0
+IsSetup s pairs names system = (bytes_of (setup pairs names system) ≡ s) × LaidOut (setup pairs names system)
+
+-- A name is replaced by one of the pairs.
+abbrev pub Replaces : List Pair → ℕ → Type 0
+Replaces pairs n = (p : Pair) × Contains pairs p × (p.from ≡ n)
+
+-- The pairs of a setup are not too many, and those before this one are in order.
+abbrev pub AtPair : List Pair → Pair → List Pair → Type 0
+AtPair front p back = (length (front ++ p ∷ back) ≤ pair_limit) × (sound_pairs front ≡ true)
+
+-- The pairs of a setup are allowed, its names are not too many, and those before this byte are names.
+abbrev pub AtName : List Pair → List ℕ → ℕ → List ℕ → Type 0
+AtName pairs front n back = PairsAllowed pairs × (length (front ++ n ∷ back) ≤ name_limit) × (all_names front ≡ true)
+
+-- A setup is bad at its kind, or it is laid out and bad at the first byte that breaks a rule: all before it is in order.
 pub data BadAt : List ℕ → ℕ → Type 0 where
   kind : {k : ℕ} {s : List ℕ} → (k ≢ 1) → (k ≢ 2) → BadAt (0xA0 ∷ k ∷ s) 1
-  pairs : {s : List ℕ} (ps names : List ℕ) (system : SystemView) → bytes_of (setup ps names system) ≡ s → LaidOut (setup ps names system) → 0 < length ps → BadAt s 2
-  names : {s : List ℕ} (ns : List ℕ) (system : SystemView) → bytes_of (setup [] ns system) ≡ s → LaidOut (setup [] ns system) → 0 < length ns → BadAt s 3
-  count : {s : List ℕ} (system : SystemView) → bytes_of (setup [] [] system) ≡ s → LaidOut (setup [] [] system) → Many system → BadAt s 4
+  many_pairs : {s : List ℕ} (pairs : List Pair) (names : List ℕ) (system : SystemView) → IsSetup s pairs names system → pair_limit < length pairs → BadAt s 2
+  from_no_name : {s : List ℕ} (front : List Pair) (p : Pair) (back : List Pair) (names : List ℕ) (system : SystemView) → IsSetup s (front ++ p ∷ back) names system → AtPair front p back → is_name p.from ≡ false → BadAt s (pair_place front)
+  from_twice : {s : List ℕ} (front : List Pair) (p : Pair) (back : List Pair) (names : List ℕ) (system : SystemView) → IsSetup s (front ++ p ∷ back) names system → AtPair front p back → is_name p.from ≡ true → Replaces front p.from → BadAt s (pair_place front)
+  to_no_name : {s : List ℕ} (front : List Pair) (p : Pair) (back : List Pair) (names : List ℕ) (system : SystemView) → IsSetup s (front ++ p ∷ back) names system → AtPair front p back → is_name p.from ≡ true → (Replaces front p.from → ⊥) → is_name p.to ≡ false → BadAt s (pair_place front + 1)
+  many_names : {s : List ℕ} (pairs : List Pair) (names : List ℕ) (system : SystemView) → IsSetup s pairs names system → PairsAllowed pairs → name_limit < length names → BadAt s (names_place pairs)
+  no_name : {s : List ℕ} (pairs : List Pair) (front : List ℕ) (n : ℕ) (back : List ℕ) (system : SystemView) → IsSetup s pairs (front ++ n ∷ back) system → AtName pairs front n back → is_name n ≡ false → BadAt s (name_place pairs front)
+  count : {s : List ℕ} (pairs : List Pair) (names : List ℕ) (system : SystemView) → IsSetup s pairs names system → PairsAllowed pairs → NamesAllowed names → Many system → BadAt s (count_place pairs names)
 
 abbrev pub PlacesBadSetups : Type 0
 PlacesBadSetups = (s : List ℕ) (place : ℕ) → AreBytes s → frame_told s ≡ Err (BadSetup place) → BadAt s place
 
+-- The bytes of a setup stand at their places.
+pub record PlacesParts : Type 0 where
+  pub pair_count : (pairs : List Pair) (names : List ℕ) (system : SystemView) → slice_index (bytes_of (setup pairs names system)) 2 ≡ length pairs
+  pub replaced : (front : List Pair) (p : Pair) (back : List Pair) (names : List ℕ) (system : SystemView) → slice_index (bytes_of (setup (front ++ p ∷ back) names system)) (pair_place front) ≡ p.from
+  pub replacing : (front : List Pair) (p : Pair) (back : List Pair) (names : List ℕ) (system : SystemView) → slice_index (bytes_of (setup (front ++ p ∷ back) names system)) (pair_place front + 1) ≡ p.to
+  pub name_count : (pairs : List Pair) (names : List ℕ) (system : SystemView) → slice_index (bytes_of (setup pairs names system)) (names_place pairs) ≡ length names
+  pub name : (pairs : List Pair) (front : List ℕ) (n : ℕ) (back : List ℕ) (system : SystemView) → slice_index (bytes_of (setup pairs (front ++ n ∷ back) system)) (name_place pairs front) ≡ n
+  pub count : (pairs : List Pair) (names : List ℕ) (system : SystemView) → slice_index (bytes_of (setup pairs names system)) (count_place pairs names) ≡ count_of system
+
 -- In a setup that is read, each body stands at its place in the frame.
 abbrev pub PlacesBodies : Type 0
-PlacesBodies = (s pairs names : List ℕ) (front : List (List ℕ)) (body : List ℕ) (back : List (List ℕ)) → AreBytes s → frame_told s ≡ Ok (setup pairs names (terms (front ++ body ∷ back))) → take (length body) (drop (body_place front) s) ≡ body
+PlacesBodies = (s : List ℕ) (pairs : List Pair) (names : List ℕ) (front : List (List ℕ)) (body : List ℕ) (back : List (List ℕ)) → AreBytes s → frame_told s ≡ Ok (setup pairs names (terms (front ++ body ∷ back))) → take (length body) (drop (body_place pairs names front) s) ≡ body
+
+-- In a setup that is read, each event stands at its place in the frame.
+abbrev pub PlacesEvents : Type 0
+PlacesEvents = (s : List ℕ) (pairs : List Pair) (names events : List ℕ) (i : ℕ) → AreBytes s → frame_told s ≡ Ok (setup pairs names (net events)) → 17 * i + 17 ≤ length events → take 17 (drop (event_place pairs names i) s) ≡ take 17 (drop (17 * i) events)
