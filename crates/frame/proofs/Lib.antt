@@ -3,3 +3,4 @@ pub mod Behind
 pub mod Calls
 pub mod Numbers
 pub mod Places
+pub mod Taken

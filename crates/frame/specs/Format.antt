@@ -31,28 +31,28 @@ PlacesMalformed = (s : List ℕ) (place : ℕ) → AreBytes s → length s ≤ f
 abbrev pub IsSetup : List ℕ → List Pair → List ℕ → SystemView → Type 0
 IsSetup s pairs names system = (bytes_of (setup pairs names system) ≡ s) × LaidOut (setup pairs names system)
 
--- A name is replaced by one of the pairs.
+-- One of the pairs replaces the name.
 abbrev pub Replaces : List Pair → ℕ → Type 0
 Replaces pairs n = (p : Pair) × Contains pairs p × (p.from ≡ n)
 
--- The pairs of a setup are not too many, and those before this one are in order.
-abbrev pub AtPair : List Pair → Pair → List Pair → Type 0
-AtPair front p back = (length (front ++ p ∷ back) ≤ pair_limit) × (sound_pairs front ≡ true)
+-- Pairs are bad at the first byte that breaks a rule: the pairs before its own are in order.
+pub data PairsBadAt : List Pair → ℕ → Type 0 where
+  from_no_name : (front : List Pair) (p : Pair) (back : List Pair) → sound_pairs front ≡ true → is_name p.from ≡ false → PairsBadAt (front ++ p ∷ back) (pair_place front)
+  from_twice : (front : List Pair) (p : Pair) (back : List Pair) → sound_pairs front ≡ true → is_name p.from ≡ true → Replaces front p.from → PairsBadAt (front ++ p ∷ back) (pair_place front)
+  to_no_name : (front : List Pair) (p : Pair) (back : List Pair) → sound_pairs front ≡ true → is_name p.from ≡ true → (Replaces front p.from → ⊥) → is_name p.to ≡ false → PairsBadAt (front ++ p ∷ back) (pair_place front + 1)
 
--- The pairs of a setup are allowed, its names are not too many, and those before this byte are names.
-abbrev pub AtName : List Pair → List ℕ → ℕ → List ℕ → Type 0
-AtName pairs front n back = PairsAllowed pairs × (length (front ++ n ∷ back) ≤ name_limit) × (all_names front ≡ true)
+-- Names, behind pairs, are bad at the first byte that is none.
+pub data NamesBadAt : List Pair → List ℕ → ℕ → Type 0 where
+  no_name : (pairs : List Pair) (front : List ℕ) (n : ℕ) (back : List ℕ) → all_names front ≡ true → is_name n ≡ false → NamesBadAt pairs (front ++ n ∷ back) (name_place pairs front)
 
 -- A setup is bad at its kind, or it is laid out and bad at the first byte that breaks a rule: all before it is in order.
 pub data BadAt : List ℕ → ℕ → Type 0 where
   kind : {k : ℕ} {s : List ℕ} → (k ≢ 1) → (k ≢ 2) → BadAt (0xA0 ∷ k ∷ s) 1
   many_pairs : {s : List ℕ} (pairs : List Pair) (names : List ℕ) (system : SystemView) → IsSetup s pairs names system → pair_limit < length pairs → BadAt s 2
-  from_no_name : {s : List ℕ} (front : List Pair) (p : Pair) (back : List Pair) (names : List ℕ) (system : SystemView) → IsSetup s (front ++ p ∷ back) names system → AtPair front p back → is_name p.from ≡ false → BadAt s (pair_place front)
-  from_twice : {s : List ℕ} (front : List Pair) (p : Pair) (back : List Pair) (names : List ℕ) (system : SystemView) → IsSetup s (front ++ p ∷ back) names system → AtPair front p back → is_name p.from ≡ true → Replaces front p.from → BadAt s (pair_place front)
-  to_no_name : {s : List ℕ} (front : List Pair) (p : Pair) (back : List Pair) (names : List ℕ) (system : SystemView) → IsSetup s (front ++ p ∷ back) names system → AtPair front p back → is_name p.from ≡ true → (Replaces front p.from → ⊥) → is_name p.to ≡ false → BadAt s (pair_place front + 1)
+  bad_pair : {s : List ℕ} {place : ℕ} (pairs : List Pair) (names : List ℕ) (system : SystemView) → IsSetup s pairs names system → length pairs ≤ pair_limit → PairsBadAt pairs place → BadAt s place
   many_names : {s : List ℕ} (pairs : List Pair) (names : List ℕ) (system : SystemView) → IsSetup s pairs names system → PairsAllowed pairs → name_limit < length names → BadAt s (names_place pairs)
-  no_name : {s : List ℕ} (pairs : List Pair) (front : List ℕ) (n : ℕ) (back : List ℕ) (system : SystemView) → IsSetup s pairs (front ++ n ∷ back) system → AtName pairs front n back → is_name n ≡ false → BadAt s (name_place pairs front)
-  count : {s : List ℕ} (pairs : List Pair) (names : List ℕ) (system : SystemView) → IsSetup s pairs names system → PairsAllowed pairs → NamesAllowed names → Many system → BadAt s (count_place pairs names)
+  bad_name : {s : List ℕ} {place : ℕ} (pairs : List Pair) (names : List ℕ) (system : SystemView) → IsSetup s pairs names system → PairsAllowed pairs → length names ≤ name_limit → NamesBadAt pairs names place → BadAt s place
+  many_parts : {s : List ℕ} (pairs : List Pair) (names : List ℕ) (system : SystemView) → IsSetup s pairs names system → PairsAllowed pairs → NamesAllowed names → Many system → BadAt s (count_place pairs names)
 
 abbrev pub PlacesBadSetups : Type 0
 PlacesBadSetups = (s : List ℕ) (place : ℕ) → AreBytes s → frame_told s ≡ Err (BadSetup place) → BadAt s place

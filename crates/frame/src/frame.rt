@@ -75,7 +75,10 @@ fn read_call(call: u8, rest: &[u8]) -> Result<Frame<'_>, FrameFault>
 {
     // By the byte itself: here it becomes the enum of frames, and an enum of calls between would say each byte twice.
     let frame = match call {
-        0xA0 => Frame::Setup(Setup::read(rest)?),
+        0xA0 => match Setup::read(rest) {
+            Ok(setup) => Frame::Setup(setup),
+            Err(fault) => return Err(fault),
+        },
         0xB0 => {
             let (sheet, state) = rest.split_first().ok_or(FrameFault::Malformed(1))?;
             Frame::Open {

@@ -11,6 +11,6 @@ pub(crate) struct Parts<'a> {
     pub names: &'a [u8],
     pub system: System<'a>,
     ghost whole: { length pairs.now ≡ 2 * (length pairs.now / 2) },
-    ghost within: { length pairs.now + length names.now ≤ 1019 },
+    ghost within: { length pairs.now + length names.now ≤ 1020 },
     ghost placed: { place_of system ≡ 5 + (length pairs.now + length names.now) },
 }
