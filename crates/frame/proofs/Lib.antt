@@ -4,3 +4,6 @@ pub mod Calls
 pub mod Numbers
 pub mod Places
 pub mod Taken
+pub mod Layouts
+pub mod Ruled
+pub mod Format

@@ -1,7 +1,7 @@
 -- The pairs and the names of a setup, taken one by one.
 use Rattle.std.proofs.Common.{◌≡◌, ℕ, ◌+◌, ◌-◌, ◌/◌, ◌<◌, ◌≤◌, Bool, true, false, cond, is_err, leb, List, [], ◌∷◌, ◌++◌, length, get_or, take, drop, Some, None, Ok, Err, Option, Result, sym, refl, ap, ◌∙◌, arith}
 use Rattle.std.proofs.lemmas.List.{take_all, drop_more, length-append, length-drop}
-use Rattle.std.proofs.lemmas.Bool.{le-leb, lt-leb, cond-true, cond-false}
+use Rattle.std.proofs.lemmas.Bool.{le-leb, cond-true}
 use Rattle.actions.specs.declared.pairs.Pair.{Pair}
 use Rattle.actions.specs.declared.pairs.PairFault.{PairFault}
 use Rattle.actions.specs.declared.names.NameFault.{NameFault}

@@ -1,10 +1,10 @@
 -- What reading a frame promises, in words of the format alone. Assumes nothing.
-use Rattle.std.specs.Prelude.{◌≡◌, ◌≢◌, ℕ, ◌+◌, ◌*◌, ◌<◌, ◌≤◌, true, false, ◌↔◌, List, ◌∷◌, ◌++◌, length, take, drop, Ok, Err, slice_index}
+use Rattle.std.specs.Prelude.{◌≡◌, ◌≢◌, ℕ, ◌+◌, ◌*◌, ◌<◌, ◌≤◌, true, false, ◌↔◌, List, ◌∷◌, ◌++◌, length, take, drop, Ok, Err}
 use Rattle.std.specs.List.{All, Contains}
 use Rattle.actions.specs.declared.pairs.Pair.{Pair}
 use Rattle.actions.specs.Action.{is_name}
 use Rattle.frame.specs.declared.fault.FrameFault.TheVariants.{Malformed, BadSetup}
-use Rattle.frame.specs.Frames.{SystemView, FrameView, count_of, bytes_of, LaidOut, PairsAllowed, NamesAllowed, Many, Accepted, Begins, sound_pairs, all_names, pair_limit, name_limit, frame_limit, pair_place, names_place, name_place, count_place, body_place, event_place}
+use Rattle.frame.specs.Frames.{SystemView, FrameView, pair_bytes, count_of, system_bytes, bytes_of, LaidOut, PairsAllowed, NamesAllowed, Many, Accepted, Begins, sound_pairs, all_names, pair_limit, name_limit, frame_limit, pair_place, names_place, name_place, count_place, body_place, event_place}
 use Rattle.frame.specs.Frames.SystemView.{terms, net}
 use Rattle.frame.specs.Frames.FrameView.{setup}
 use Rattle.frame.specs.Reading.{frame_told}
@@ -42,8 +42,8 @@ pub data PairsBadAt : List Pair → ℕ → Type 0 where
   to_no_name : (front : List Pair) (p : Pair) (back : List Pair) → sound_pairs front ≡ true → is_name p.from ≡ true → (Replaces front p.from → ⊥) → is_name p.to ≡ false → PairsBadAt (front ++ p ∷ back) (pair_place front + 1)
 
 -- Names, behind pairs, are bad at the first byte that is none.
-pub data NamesBadAt : List Pair → List ℕ → ℕ → Type 0 where
-  no_name : (pairs : List Pair) (front : List ℕ) (n : ℕ) (back : List ℕ) → all_names front ≡ true → is_name n ≡ false → NamesBadAt pairs (front ++ n ∷ back) (name_place pairs front)
+pub data NamesBadAt (pairs : List Pair) : List ℕ → ℕ → Type 0 where
+  no_name : (front : List ℕ) (n : ℕ) (back : List ℕ) → all_names front ≡ true → is_name n ≡ false → NamesBadAt pairs (front ++ n ∷ back) (name_place pairs front)
 
 -- A setup is bad at its kind, or it is laid out and bad at the first byte that breaks a rule: all before it is in order.
 pub data BadAt : List ℕ → ℕ → Type 0 where
@@ -57,19 +57,17 @@ pub data BadAt : List ℕ → ℕ → Type 0 where
 abbrev pub PlacesBadSetups : Type 0
 PlacesBadSetups = (s : List ℕ) (place : ℕ) → AreBytes s → frame_told s ≡ Err (BadSetup place) → BadAt s place
 
--- The bytes of a setup stand at their places.
+-- In the frame of a setup each part stands at its place, with what follows it behind it.
 pub record PlacesParts : Type 0 where
-  pub pair_count : (pairs : List Pair) (names : List ℕ) (system : SystemView) → slice_index (bytes_of (setup pairs names system)) 2 ≡ length pairs
-  pub replaced : (front : List Pair) (p : Pair) (back : List Pair) (names : List ℕ) (system : SystemView) → slice_index (bytes_of (setup (front ++ p ∷ back) names system)) (pair_place front) ≡ p.from
-  pub replacing : (front : List Pair) (p : Pair) (back : List Pair) (names : List ℕ) (system : SystemView) → slice_index (bytes_of (setup (front ++ p ∷ back) names system)) (pair_place front + 1) ≡ p.to
-  pub name_count : (pairs : List Pair) (names : List ℕ) (system : SystemView) → slice_index (bytes_of (setup pairs names system)) (names_place pairs) ≡ length names
-  pub name : (pairs : List Pair) (front : List ℕ) (n : ℕ) (back : List ℕ) (system : SystemView) → slice_index (bytes_of (setup pairs (front ++ n ∷ back) system)) (name_place pairs front) ≡ n
-  pub count : (pairs : List Pair) (names : List ℕ) (system : SystemView) → slice_index (bytes_of (setup pairs names system)) (count_place pairs names) ≡ count_of system
+  pub pairs : (front back : List Pair) (names : List ℕ) (system : SystemView) → drop (pair_place front) (bytes_of (setup (front ++ back) names system)) ≡ pair_bytes back ++ ((length names ∷ names) ++ (count_of system ∷ system_bytes system))
+  pub name_count : (pairs : List Pair) (names : List ℕ) (system : SystemView) → drop (names_place pairs) (bytes_of (setup pairs names system)) ≡ (length names ∷ names) ++ (count_of system ∷ system_bytes system)
+  pub names : (pairs : List Pair) (front back : List ℕ) (system : SystemView) → drop (name_place pairs front) (bytes_of (setup pairs (front ++ back) system)) ≡ back ++ (count_of system ∷ system_bytes system)
+  pub count : (pairs : List Pair) (names : List ℕ) (system : SystemView) → drop (count_place pairs names) (bytes_of (setup pairs names system)) ≡ count_of system ∷ system_bytes system
 
 -- In a setup that is read, each body stands at its place in the frame.
 abbrev pub PlacesBodies : Type 0
 PlacesBodies = (s : List ℕ) (pairs : List Pair) (names : List ℕ) (front : List (List ℕ)) (body : List ℕ) (back : List (List ℕ)) → AreBytes s → frame_told s ≡ Ok (setup pairs names (terms (front ++ body ∷ back))) → take (length body) (drop (body_place pairs names front) s) ≡ body
 
--- In a setup that is read, each event stands at its place in the frame.
+-- In a setup that is read, each event stands at its place in the frame, with those that follow it behind it.
 abbrev pub PlacesEvents : Type 0
-PlacesEvents = (s : List ℕ) (pairs : List Pair) (names events : List ℕ) (i : ℕ) → AreBytes s → frame_told s ≡ Ok (setup pairs names (net events)) → 17 * i + 17 ≤ length events → take 17 (drop (event_place pairs names i) s) ≡ take 17 (drop (17 * i) events)
+PlacesEvents = (s : List ℕ) (pairs : List Pair) (names events : List ℕ) (i : ℕ) → AreBytes s → frame_told s ≡ Ok (setup pairs names (net events)) → drop (event_place pairs names i) s ≡ drop (17 * i) events

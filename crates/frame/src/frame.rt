@@ -75,6 +75,7 @@ fn read_call(call: u8, rest: &[u8]) -> Result<Frame<'_>, FrameFault>
 {
     // By the byte itself: here it becomes the enum of frames, and an enum of calls between would say each byte twice.
     let frame = match call {
+        // No `?`: it has no proof at a value that holds a loan and a list of fixed places.
         0xA0 => match Setup::read(rest) {
             Ok(setup) => Frame::Setup(setup),
             Err(fault) => return Err(fault),

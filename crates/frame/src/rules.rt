@@ -21,9 +21,7 @@ pub(crate) fn allowed(parts: Parts<'_>) -> Result<Setup<'_>, FrameFault>
     let names_place = 3 + parts.pairs.len() as u16;
     let names = read_names(names_place, parts.names)?;
     if !parts.system.is_few() {
-        return Err(FrameFault::BadSetup(
-            names_place + 1 + parts.names.len() as u16,
-        ));
+        return Err(FrameFault::BadSetup(names_place + 1 + parts.names.len() as u16));
     }
     Ok(Setup {
         pairs,
@@ -55,11 +53,10 @@ fn read_pairs(bytes: &[u8]) -> Result<Pairs, FrameFault>
 }
 
 // The pairs and one more behind them, whose first byte stands at the place.
-fn with_pair(pairs: Pairs, pair: Pair, place: u16) -> Result<Pairs, FrameFault>
+fn with_pair(mut pairs: Pairs, pair: Pair, place: u16) -> Result<Pairs, FrameFault>
     requires { place ≤ 1024 }
     ensures { viewed pairs_of result ≡ pair_added (pairs_of pairs) pair place }
 {
-    let mut pairs = pairs;
     match pairs.add(pair) {
         Ok(()) => Ok(pairs),
         Err(fault) => Err(FrameFault::BadSetup(place + offset(fault))),
