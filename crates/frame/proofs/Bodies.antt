@@ -1,5 +1,5 @@
 -- Definitions taken off the front of a string, one by one.
-use Rattle.std.proofs.Common.{◌≡◌, ℕ, zero, suc, ◌+◌, ◌*◌, Bool, true, false, cond, leb, List, [], ◌∷◌, length, take, drop, Some, None, Option, sym, refl, ap, ◌∙◌, subst, arith}
+use Rattle.std.proofs.Common.{◌≡◌, ℕ, zero, suc, ◌+◌, ◌*◌, ◌/◌, Bool, true, false, cond, leb, List, [], ◌∷◌, length, take, drop, Some, None, Option, sym, refl, ap, ◌∙◌, subst, arith}
 use Rattle.std.proofs.lemmas.List.{length-take-le, length-drop}
 use Rattle.std.proofs.lemmas.Option.{none-some, same_Some}
 use Rattle.std.proofs.lemmas.Bool.{leb-true}
@@ -15,6 +15,17 @@ part_length size (count ∷ s) items rest e = cases (leb (count * size) (length 
         let front : take (count * size) s ≡ items = ap (λ (p : List ℕ × List ℕ). p.0) (same_Some _ _ h) in
         let back : drop (count * size) s ≡ rest = ap (λ (p : List ℕ × List ℕ). p.1) (same_Some _ _ h) in
         omega (arith, leb-true _ _ is, length-take-le (count * size) s (leb-true _ _ is), length-drop (count * size) s, ap length front, ap length back)
+    cases false is h = absurd (none-some _ h)
+
+-- items of two bytes are whole
+pub part_even : (s items rest : List ℕ) → part_told 2 s ≡ Some (items, rest) → length items ≡ 2 * (length items / 2)
+part_even [] items rest e = absurd (none-some _ e)
+part_even (count ∷ s) items rest e = cases (leb (count * 2) (length s)) refl e
+  where
+    cases : (t : Bool) → leb (count * 2) (length s) ≡ t → cond {A = Option (List ℕ × List ℕ)} t (Some (take (count * 2) s, drop (count * 2) s)) None ≡ Some (items, rest) → length items ≡ 2 * (length items / 2)
+    cases true is h =
+        let front : take (count * 2) s ≡ items = ap (λ (p : List ℕ × List ℕ). p.0) (same_Some _ _ h) in
+        omega (arith, length-take-le (count * 2) s (leb-true _ _ is), ap length front)
     cases false is h = absurd (none-some _ h)
 
 -- a number above 0, and the one before it

@@ -1,23 +1,26 @@
 -- Reading answers by the format: what is read is what was laid out, and a fault stands where no frame goes on.
-use Rattle.std.proofs.Common.{◌≡◌, ℕ, zero, suc, ◌+◌, ◌-◌, ◌/◌, ◌<◌, ◌≤◌, Bool, true, false, cond, eqb, leb, List, [], ◌∷◌, ◌++◌, length, get_or, take, drop, Some, None, Ok, Err, Option, Result, IfOk, sym, refl, ap, ◌∙◌, subst, arith}
+use Rattle.std.proofs.Common.{◌≡◌, ℕ, zero, suc, ◌+◌, ◌-◌, ◌*◌, ◌<◌, ◌≤◌, Bool, true, false, cond, inl, inr, eqb, leb, List, [], ◌∷◌, ◌++◌, length, get_or, take, drop, Some, None, Ok, Err, Option, Result, IfOk, sym, refl, ap, ◌∙◌, subst, arith}
 use lib.Seq.{take-append-add}
-use Rattle.std.proofs.lemmas.List.{append_assoc, append-nil, take_at, drop_at, length-append, take_all, nil_from_length, length-take}
+use Rattle.std.proofs.lemmas.List.{append_assoc, append-nil, take_at, drop_at, drop-drop, length-append, take_all, nil_from_length, length-take}
 use Rattle.std.proofs.lemmas.List.Elements.{All-tail, All-from_get_or}
-use Rattle.std.proofs.lemmas.Bool.{le-leb, eq-eqb, cond_both, leb-true, leb-false, eqb-true, eqb-false}
+use Rattle.std.proofs.lemmas.Bool.{le-leb, cond_both, leb-true, leb-false, eqb-true, eqb-false}
 use Rattle.frame.specs.declared.fault.FrameFault.{FrameFault}
 use Rattle.frame.specs.declared.fault.FrameFault.TheVariants.{Malformed, BadSetup}
 use Rattle.frame.specs.declared.frame.Frame.{Frame}
 use Rattle.frame.specs.declared.layout.Kind.{Kind}
 use Rattle.frame.specs.declared.layout.Kind.TheVariants.{Terms, Net}
-use Rattle.frame.specs.Frames.{SystemView, FrameView, definitions, kind_of, setup_bytes, bytes_of, LaidOut, Few, Many, WithinRules, Accepted, Begins, frame_limit, body_place}
+use Rattle.actions.specs.declared.pairs.Pair.{Pair}
+use Rattle.frame.specs.Frames.{SystemView, FrameView, PairsAllowed, NamesAllowed, pair_bytes, definitions, system_bytes, kind_of, setup_bytes, bytes_of, LaidOut, Few, Many, WithinRules, Accepted, Begins, frame_limit, names_place, count_place, first_place, body_place}
 use Rattle.frame.specs.Frames.SystemView.{terms, net}
-use Rattle.frame.specs.Frames.FrameView.{setup, open_sheet, add, swap, withdraw, join, release, reopen, print}
-use Rattle.frame.specs.Reading.{Layout, layout_told, few, rules_told, parts_told, setup_told, sheet_rest_told, sheet_told, sheet_byte_told, bytes_told, frame_told, frame_view, viewed}
-use Rattle.frame.specs.Format.{AreBytes, ReadsFrames, MalformedAt, PlacesMalformed, BadAt, PlacesBadSetups, PlacesBodies}
-use Rattle.frame.specs.Format.BadAt.{kind, pairs, names, count}
+use Rattle.frame.specs.Frames.FrameView.{setup, open_sheet, add, swap, withdraw, join, release, reopen, print, look}
+use Rattle.frame.specs.Rules.{few, pairs_told, names_told, rules_told}
+use Rattle.frame.specs.Reading.{Layout, layout_told, parts_told, setup_told, sheet_rest_told, sheet_told, sheet_byte_told, bytes_told, frame_told, frame_view, viewed}
+use Rattle.frame.specs.Format.{AreBytes, ReadsFrames, MalformedAt, PlacesMalformed, BadAt, PlacesBadSetups, PlacesBodies, PlacesEvents}
+use Rattle.frame.specs.Format.BadAt.{kind, many_pairs, bad_pair, many_names, bad_name, many_parts}
 use Rattle.frame.proofs.Calls.{within_told}
-use Rattle.frame.proofs.Layouts.{byte_of, no_items, laid, layout_built, Tells, layout_tells, no_layout, ends}
-use Rattle.frame.proofs.Places.{definitions-append}
+use Rattle.frame.proofs.Layouts.{byte_of, no_items, laid, layout_built, SetupTells, setup_tells, no_layout, ends}
+use Rattle.frame.proofs.Places.{length-pair_bytes, at_first, definitions-append}
+use Rattle.frame.proofs.Ruled.{PairsTold, told_pairs, NamesTold, told_names, pairs_kept, names_kept}
 
 -- first bytes
 
@@ -31,6 +34,7 @@ long (join sheet other) = omega arith
 long (release sheet) = omega arith
 long (reopen sheet) = omega arith
 long (print sheet) = omega arith
+long (look sheet count) = omega arith
 
 -- a frame names one of the calls
 record Unknown (call : ℕ) : Type 0 where
@@ -43,6 +47,7 @@ record Unknown (call : ℕ) : Type 0 where
   not_release : call ≡ 0xB5 → ⊥
   not_reopen : call ≡ 0xB6 → ⊥
   not_print : call ≡ 0xB7 → ⊥
+  not_look : call ≡ 0xB9 → ⊥
 
 named : (call : ℕ) → Unknown call → (f : FrameView) (t : List ℕ) → bytes_of f ≡ call ∷ t → ⊥
 named call u (setup ps ns system) t e = u.not_setup (sym (ap (λ s. get_or s 0 0) e))
@@ -54,10 +59,11 @@ named call u (join sheet other) t e = u.not_join (sym (ap (λ s. get_or s 0 0) e
 named call u (release sheet) t e = u.not_release (sym (ap (λ s. get_or s 0 0) e))
 named call u (reopen sheet) t e = u.not_reopen (sym (ap (λ s. get_or s 0 0) e))
 named call u (print sheet) t e = u.not_print (sym (ap (λ s. get_or s 0 0) e))
+named call u (look sheet count) t e = u.not_look (sym (ap (λ s. get_or s 0 0) e))
 
 -- a call that is no setup and takes no rest has a sheet alone, or one byte more
 abbrev size : ℕ → ℕ
-size call = cond (eqb call 0xB2) 3 (cond (eqb call 0xB4) 3 2)
+size call = cond (eqb call 0xB2) 3 (cond (eqb call 0xB4) 3 (cond (eqb call 0xB9) 3 2))
 
 sized : (call : ℕ) → 0xB1 < call → (f : FrameView) (t : List ℕ) → bytes_of f ≡ call ∷ t → length (bytes_of f) ≡ size call
 sized call h (setup ps ns system) t e = absurd (omega (arith, ap (λ s. get_or s 0 0) e))
@@ -69,6 +75,7 @@ sized call h (join sheet other) t e = ap (λ s. size (get_or s 0 0)) e
 sized call h (release sheet) t e = ap (λ s. size (get_or s 0 0)) e
 sized call h (reopen sheet) t e = ap (λ s. size (get_or s 0 0)) e
 sized call h (print sheet) t e = ap (λ s. size (get_or s 0 0)) e
+sized call h (look sheet count) t e = ap (λ s. size (get_or s 0 0)) e
 
 -- what an answer says of the bytes that were read
 abbrev Right : List ℕ → Result FrameView FrameFault → Type 0
@@ -165,6 +172,9 @@ reopen_right = sheet_right 0xB6 reopen (omega arith) refl (λ sheet. (refl, tt, 
 print_right : (rest : List ℕ) → Right (0xB7 ∷ rest) (sheet_told print rest)
 print_right = sheet_right 0xB7 print (omega arith) refl (λ sheet. (refl, tt, tt))
 
+look_right : (rest : List ℕ) → Right (0xB9 ∷ rest) (sheet_byte_told look rest)
+look_right = sheet_byte_right 0xB9 look (omega arith) refl (λ sheet count. (refl, tt, tt))
+
 -- setups
 
 filled : (t : List ℕ) → eqb (length t) 0 ≡ false → 0 < length t
@@ -185,27 +195,37 @@ is_few : (system : SystemView) → Few system → few system ≡ true
 is_few (terms bs) h = le-leb _ _ h
 is_few (net es) h = le-leb _ _ h
 
-rules_right : (ps ns : List ℕ) (system : SystemView) → LaidOut (setup ps ns system) → Right (bytes_of (setup ps ns system)) (rules_told ps ns system)
+-- a setup whose pairs and names are allowed
+system_right : (ps : List Pair) (ns : List ℕ) (system : SystemView) (place : ℕ) → LaidOut (setup ps ns system) → PairsAllowed ps → NamesAllowed ns → place ≡ count_place ps ns → Right (bytes_of (setup ps ns system)) (cond (few system) (Ok (setup ps ns system)) (Err (BadSetup place)))
+system_right ps ns system place l p n is =
+    cond_both (few system) _ _ (Right (bytes_of (setup ps ns system)))
+    (λ enough. (refl, l, (p, n, few_enough system enough)))
+    (λ more. subst (BadAt (bytes_of (setup ps ns system))) (sym is) (many_parts ps ns system (refl, l) p n (too_many system more)))
+
+-- a setup whose pairs are allowed
+names_right : (ps : List Pair) (ns : List ℕ) (system : SystemView) (place : ℕ) → LaidOut (setup ps ns system) → PairsAllowed ps → place ≡ count_place ps ns → (r : Result (List ℕ) FrameFault) → NamesTold ps ns r
+    → Right (bytes_of (setup ps ns system)) (elim r as (λ _. Result FrameView FrameFault) [ Err f ↦ Err f | Ok ms ↦ cond (few system) (Ok (setup ps ms system)) (Err (BadSetup place)) ])
+names_right ps ns system place l p is (Ok ms) (same, n) =
+    subst (λ ms. Right (bytes_of (setup ps ns system)) (cond (few system) (Ok (setup ps ms system)) (Err (BadSetup place)))) (sym same) (system_right ps ns system place l p n is)
+names_right ps ns system place l p is (Err (Malformed k)) h = absurd h
+names_right ps ns system place l p is (Err (BadSetup k)) (inl (many, at)) = subst (BadAt (bytes_of (setup ps ns system))) (sym at) (many_names ps ns system (refl, l) p many)
+names_right ps ns system place l p is (Err (BadSetup k)) (inr (enough, bad)) = bad_name ps ns system (refl, l) p enough bad
+
+pairs_right : (ps : List Pair) (ns : List ℕ) (system : SystemView) (at place : ℕ) → LaidOut (setup ps ns system) → at ≡ names_place ps → place ≡ count_place ps ns → (r : Result (List Pair) FrameFault) → PairsTold ps r
+    → Right (bytes_of (setup ps ns system)) (elim r as (λ _. Result FrameView FrameFault) [ Err f ↦ Err f | Ok qs ↦ elim (names_told at ns) as (λ _. Result FrameView FrameFault) [ Err f ↦ Err f | Ok ms ↦ cond (few system) (Ok (setup qs ms system)) (Err (BadSetup place)) ] ])
+pairs_right ps ns system at place l here is (Ok qs) (same, p) =
+    subst (λ qs. Right (bytes_of (setup ps ns system)) (elim (names_told at ns) as (λ _. Result FrameView FrameFault) [ Err f ↦ Err f | Ok ms ↦ cond (few system) (Ok (setup qs ms system)) (Err (BadSetup place)) ])) (sym same)
+    (names_right ps ns system place l p is (names_told at ns) (subst (λ k. NamesTold ps ns (names_told k ns)) (sym here) (told_names ps ns)))
+pairs_right ps ns system at place l here is (Err (Malformed k)) h = absurd h
+pairs_right ps ns system at place l here is (Err (BadSetup k)) (inl (many, two)) = subst (BadAt (bytes_of (setup ps ns system))) (sym two) (many_pairs ps ns system (refl, l) many)
+pairs_right ps ns system at place l here is (Err (BadSetup k)) (inr (enough, bad)) = bad_pair ps ns system (refl, l) enough bad
+
+rules_right : (ps : List Pair) (ns : List ℕ) (system : SystemView) → LaidOut (setup ps ns system) → Right (bytes_of (setup ps ns system)) (rules_told (pair_bytes ps) ns system)
 rules_right ps ns system l =
-    cond_both (eqb (length ps) 0) _ _ (Right (bytes_of (setup ps ns system)))
-    (λ no_pairs. cond_both (eqb (length ns) 0) _ _ (Right (bytes_of (setup ps ns system)))
-    (λ no_names. cond_both (few system) _ _ (Right (bytes_of (setup ps ns system)))
-    (λ enough. (refl, l, (empty ps no_pairs, empty ns no_names, few_enough system enough)))
-    (λ more. bad_count (empty ps no_pairs) (empty ns no_names) (too_many system more)))
-    (λ some_names. bad_names (empty ps no_pairs) (filled ns some_names)))
-    (λ some_pairs. pairs ps ns system refl l (filled ps some_pairs))
-  where
-    empty : (t : List ℕ) → eqb (length t) 0 ≡ true → t ≡ []
-    empty t h = nil_from_length t (eqb-true _ _ h)
-
-    bad_names : ps ≡ [] → 0 < length ns → BadAt (bytes_of (setup ps ns system)) 3
-    bad_names p h = names ns system (ap (λ t. bytes_of (setup t ns system)) (sym p)) (subst (λ t. LaidOut (setup t ns system)) p l) h
-
-    bad_count : ps ≡ [] → ns ≡ [] → Many system → BadAt (bytes_of (setup ps ns system)) 4
-    bad_count p n h = count system (ap (λ t. bytes_of (setup [] t system)) (sym n) ∙ ap (λ t. bytes_of (setup t ns system)) (sym p)) (subst (λ t. LaidOut (setup [] t system)) n (subst (λ t. LaidOut (setup t ns system)) p l)) h
+    pairs_right ps ns system (3 + length (pair_bytes ps)) (3 + length (pair_bytes ps) + 1 + length ns) l (omega (arith, length-pair_bytes ps)) (omega (arith, length-pair_bytes ps)) (pairs_told (pair_bytes ps)) (told_pairs ps)
 
 -- bytes behind the parts of a setup
-behind_right : (k : Kind) (ps ns : List ℕ) (system : SystemView) (t : List ℕ) (p : ℕ) → kind_of system ≡ byte_of k → LaidOut (setup ps ns system) → 0 < length t → p ≡ length (setup_bytes ps ns system) + 2 → MalformedAt (0xA0 ∷ byte_of k ∷ (setup_bytes ps ns system ++ t)) p
+behind_right : (k : Kind) (ps : List Pair) (ns : List ℕ) (system : SystemView) (t : List ℕ) (p : ℕ) → kind_of system ≡ byte_of k → LaidOut (setup ps ns system) → 0 < length t → p ≡ length (setup_bytes ps ns system) + 2 → MalformedAt (0xA0 ∷ byte_of k ∷ (setup_bytes ps ns system ++ t)) p
 behind_right k ps ns system t p same l some is = record {
   within = omega (arith, length-append (setup_bytes ps ns system) t);
   begins = (setup ps ns system, [], l, ap (λ j. 0xA0 ∷ j ∷ setup_bytes ps ns system) same ∙ sym (append-nil _ ∙ take_at whole t p (omega arith)));
@@ -227,36 +247,37 @@ behind_right k ps ns system t p same l some is = record {
         let none = ap length (ends k ps ns system (take m t ++ more) same l f l′ bytes) in
         omega (arith, none, length-append (take m t) more, length-take m t, length-append w t)
 
-parts_right : (k : Kind) (s : List ℕ) (o : Option Layout) → layout_told k s ≡ o → Tells k s o → Right (0xA0 ∷ byte_of k ∷ s) (parts_told (length s + 2) o)
+parts_right : (k : Kind) (s : List ℕ) (o : Option Layout) → layout_told k s ≡ o → SetupTells k s o → Right (0xA0 ∷ byte_of k ∷ s) (parts_told (length s + 2) o)
 parts_right k s None is (ps, ns, system, more, same, l, goes) = record {
   within = omega arith;
   begins = subst Begins (sym (take_all (length s + 2) (0xA0 ∷ byte_of k ∷ s) (omega arith))) (setup ps ns system, more, l, ap (λ j. 0xA0 ∷ j ∷ setup_bytes ps ns system) same ∙ ap (λ t. 0xA0 ∷ byte_of k ∷ t) goes);
   longest = λ n h within b. absurd (omega arith);
   no_frame = λ f l′ e. no_layout k f s l′ e is;
 }
-parts_right k s (Some l) is (same, laid_out, goes) =
+parts_right k s (Some l) is (ps, pairs, same, laid_out, goes) =
     cond_both (eqb (length l.behind) 0) _ _ (Right (0xA0 ∷ byte_of k ∷ s)) all extra
   where
     all : eqb (length l.behind) 0 ≡ true → Right (0xA0 ∷ byte_of k ∷ s) (rules_told l.pairs l.names l.system)
     all none =
         let empty : l.behind ≡ [] = nil_from_length l.behind (eqb-true _ _ none) in
-        let whole : setup_bytes l.pairs l.names l.system ≡ s = sym (goes ∙ (ap (λ t. setup_bytes l.pairs l.names l.system ++ t) empty ∙ append-nil (setup_bytes l.pairs l.names l.system))) in
-        let bytes : bytes_of (setup l.pairs l.names l.system) ≡ 0xA0 ∷ byte_of k ∷ s = ap (λ j. 0xA0 ∷ j ∷ setup_bytes l.pairs l.names l.system) same ∙ ap (λ t. 0xA0 ∷ byte_of k ∷ t) whole in
-        subst (λ t. Right t (rules_told l.pairs l.names l.system)) bytes (rules_right l.pairs l.names l.system laid_out)
+        let whole : setup_bytes ps l.names l.system ≡ s = sym (goes ∙ (ap (λ t. setup_bytes ps l.names l.system ++ t) empty ∙ append-nil (setup_bytes ps l.names l.system))) in
+        let bytes : bytes_of (setup ps l.names l.system) ≡ 0xA0 ∷ byte_of k ∷ s = ap (λ j. 0xA0 ∷ j ∷ setup_bytes ps l.names l.system) same ∙ ap (λ t. 0xA0 ∷ byte_of k ∷ t) whole in
+        subst (λ t. Right t (rules_told l.pairs l.names l.system)) bytes (subst (λ t. Right (bytes_of (setup ps l.names l.system)) (rules_told t l.names l.system)) (sym pairs) (rules_right ps l.names l.system laid_out))
 
     extra : eqb (length l.behind) 0 ≡ false → MalformedAt (0xA0 ∷ byte_of k ∷ s) (length s + 2 - length l.behind)
     extra some =
-        let len : length s ≡ length (setup_bytes l.pairs l.names l.system) + length l.behind = ap length goes ∙ length-append (setup_bytes l.pairs l.names l.system) l.behind in
+        let len : length s ≡ length (setup_bytes ps l.names l.system) + length l.behind = ap length goes ∙ length-append (setup_bytes ps l.names l.system) l.behind in
         subst (λ t. MalformedAt (0xA0 ∷ byte_of k ∷ t) (length s + 2 - length l.behind)) (sym goes)
-        (behind_right k l.pairs l.names l.system l.behind (length s + 2 - length l.behind) same laid_out (filled l.behind some) (omega arith))
+        (behind_right k ps l.names l.system l.behind (length s + 2 - length l.behind) same laid_out (filled l.behind some) (omega (arith, len)))
 
 of_kind : (k : Kind) (j : ℕ) (s : List ℕ) → AreBytes (0xA0 ∷ j ∷ s) → eqb j (byte_of k) ≡ true → Right (0xA0 ∷ j ∷ s) (parts_told (length s + 2) (layout_told k s))
 of_kind k j s h is =
     let rest : AreBytes s = All-tail (λ b. b < 256) j s (All-tail (λ b. b < 256) 0xA0 (j ∷ s) h) in
-    subst (λ i. Right (0xA0 ∷ i ∷ s) (parts_told (length s + 2) (layout_told k s))) (sym (eqb-true _ _ is)) (parts_right k s (layout_told k s) refl (layout_tells k s rest))
+    subst (λ i. Right (0xA0 ∷ i ∷ s) (parts_told (length s + 2) (layout_told k s))) (sym (eqb-true _ _ is)) (parts_right k s (layout_told k s) refl (setup_tells k s rest))
 
 setup_right : (rest : List ℕ) → AreBytes (0xA0 ∷ rest) → Right (0xA0 ∷ rest) (setup_told rest)
-setup_right [] h = lone_right 0xA0 (setup [] [] (net []), 2 ∷ 0 ∷ 0 ∷ 0 ∷ [], (no_items 2, no_items 1, no_items 17), refl)
+unfolding pair_bytes
+setup_right [] h = lone_right 0xA0 (setup [] [] (net []), 2 ∷ 0 ∷ 0 ∷ 0 ∷ [], (omega arith, omega arith, no_items 17), refl)
 setup_right (k ∷ s) h =
     cond_both (eqb k 1) _ _ (Right (0xA0 ∷ k ∷ s)) (of_kind Terms k s h) (λ no_terms.
     cond_both (eqb k 2) _ _ (Right (0xA0 ∷ k ∷ s)) (of_kind Net k s h) (λ no_net.
@@ -279,6 +300,7 @@ bytes_right (call ∷ rest) h =
     cond_both (eqb call 0xB5) _ _ (Right (call ∷ rest)) (λ is. at_call call 0xB5 rest (sheet_told release rest) is (release_right rest)) (λ n6.
     cond_both (eqb call 0xB6) _ _ (Right (call ∷ rest)) (λ is. at_call call 0xB6 rest (sheet_told reopen rest) is (reopen_right rest)) (λ n7.
     cond_both (eqb call 0xB7) _ _ (Right (call ∷ rest)) (λ is. at_call call 0xB7 rest (sheet_told print rest) is (print_right rest)) (λ n8.
+    cond_both (eqb call 0xB9) _ _ (Right (call ∷ rest)) (λ is. at_call call 0xB9 rest (sheet_byte_told look rest) is (look_right rest)) (λ n9.
     unknown_right call rest (record {
       not_setup = eqb-false call 0xA0 n0;
       not_open = eqb-false call 0xB0 n1;
@@ -289,14 +311,19 @@ bytes_right (call ∷ rest) h =
       not_release = eqb-false call 0xB5 n6;
       not_reopen = eqb-false call 0xB6 n7;
       not_print = eqb-false call 0xB7 n8;
-    }))))))))))
+      not_look = eqb-false call 0xB9 n9;
+    })))))))))))
 
-setup_read : (k : Kind) (ps ns : List ℕ) (system : SystemView) → kind_of system ≡ byte_of k → LaidOut (setup ps ns system) → WithinRules (setup ps ns system) → parts_told (length (setup_bytes ps ns system) + 2) (layout_told k (setup_bytes ps ns system)) ≡ Ok (setup ps ns system)
+setup_read : (k : Kind) (ps : List Pair) (ns : List ℕ) (system : SystemView) → kind_of system ≡ byte_of k → LaidOut (setup ps ns system) → WithinRules (setup ps ns system) → parts_told (length (setup_bytes ps ns system) + 2) (layout_told k (setup_bytes ps ns system)) ≡ Ok (setup ps ns system)
 setup_read k ps ns system same l (p, n, enough) =
-    let built : layout_told k (setup_bytes ps ns system) ≡ Some (laid ps ns system []) = ap (layout_told k) (sym (append-nil (setup_bytes ps ns system))) ∙ layout_built k ps ns system [] same l in
-    let no_pairs : eqb (length ps) 0 ≡ true = eq-eqb _ _ (ap length p) in
-    let no_names : eqb (length ns) 0 ≡ true = eq-eqb _ _ (ap length n) in
-    let ruled : rules_told ps ns system ≡ Ok (setup ps ns system) = rw (no_pairs, no_names, is_few system enough) refl in
+    let built : layout_told k (setup_bytes ps ns system) ≡ Some (laid (pair_bytes ps) ns system []) = ap (layout_told k) (sym (append-nil (setup_bytes ps ns system))) ∙ layout_built k ps ns system [] same l in
+    let here : 3 + length (pair_bytes ps) ≡ names_place ps = omega (arith, length-pair_bytes ps) in
+    let names : names_told (3 + length (pair_bytes ps)) ns ≡ Ok ns = ap (λ k. names_told k ns) here ∙ names_kept ps ns n in
+    let counted : ◌≡◌ {A = Result FrameView FrameFault} (cond (few system) (Ok (setup ps ns system)) (Err (BadSetup (3 + length (pair_bytes ps) + 1 + length ns)))) (Ok (setup ps ns system)) = rw (is_few system enough) refl in
+    let ruled : rules_told (pair_bytes ps) ns system ≡ Ok (setup ps ns system) =
+    ap (λ (r : Result (List Pair) FrameFault). elim r as (λ _. Result FrameView FrameFault) [ Err f ↦ Err f | Ok qs ↦ elim (names_told (3 + length (pair_bytes ps)) ns) as (λ _. Result FrameView FrameFault) [ Err f ↦ Err f | Ok ms ↦ cond (few system) (Ok (setup qs ms system)) (Err (BadSetup (3 + length (pair_bytes ps) + 1 + length ns))) ] ]) (pairs_kept ps p)
+    ∙ ap (λ (r : Result (List ℕ) FrameFault). elim r as (λ _. Result FrameView FrameFault) [ Err f ↦ Err f | Ok ms ↦ cond (few system) (Ok (setup ps ms system)) (Err (BadSetup (3 + length (pair_bytes ps) + 1 + length ns))) ]) names
+    ∙ counted in
     ap (parts_told (length (setup_bytes ps ns system) + 2)) built ∙ ruled
 
 -- the bytes of an accepted frame are read as that frame
@@ -311,6 +338,7 @@ accepted_read (join sheet other) l r = refl
 accepted_read (release sheet) l r = refl
 accepted_read (reopen sheet) l r = refl
 accepted_read (print sheet) l r = refl
+accepted_read (look sheet count) l r = refl
 
 within_limit : (s : List ℕ) → AreBytes s → length s ≤ frame_limit → Right s (frame_told s)
 within_limit s b h = subst (Right s) (sym (within_told s h)) (bytes_right s b)
@@ -343,18 +371,24 @@ places_bad_setups s place b e =
     let (within, told) = bytes_answer s (Err (BadSetup place)) (λ h. let z : ◌≡◌ {A = ℕ} 0 1 = cc in omega arith) e in
     subst (Right s) told (bytes_right s b)
 
+-- what stands from the first definition or event on
+read_first : (s : List ℕ) (ps : List Pair) (ns : List ℕ) (system : SystemView) → AreBytes s → frame_told s ≡ Ok (setup ps ns system) → drop (first_place ps ns) s ≡ system_bytes system
+read_first s ps ns system b e = ap (drop (first_place ps ns)) (sym ((reads_frames s (setup ps ns system) b).0 e).0) ∙ at_first ps ns system
+
 pub places_bodies : PlacesBodies
 unfolding definitions
 places_bodies s ps ns front body back b e =
-    let (is, (l, (p, n, enough), fits)) = (reads_frames s (setup ps ns (terms (front ++ body ∷ back))) b).0 e in
     let all = front ++ body ∷ back in
-    let head : List ℕ = 0xA0 ∷ 1 ∷ 0 ∷ 0 ∷ length all ∷ (definitions front ++ length body / 1 ∷ []) in
-    let split : definitions all ≡ (definitions front ++ length body / 1 ∷ []) ++ (body ++ definitions back) =
-    definitions-append front (body ∷ back) ∙ sym (append_assoc (definitions front) (length body / 1 ∷ []) (body ++ definitions back)) in
-    let bytes : bytes_of (setup [] [] (terms all)) ≡ head ++ (body ++ definitions back) = ap (λ u. 0xA0 ∷ 1 ∷ 0 ∷ 0 ∷ length all ∷ u) split in
-    let whole : s ≡ head ++ (body ++ definitions back) = sym is ∙ ap (λ u. bytes_of (setup u ns (terms all))) p ∙ ap (λ u. bytes_of (setup [] u (terms all))) n ∙ bytes in
-    let long : length head ≡ body_place front = omega (arith, length-append (definitions front) (length body / 1 ∷ [])) in
-    ap (λ u. take (length body) (drop (body_place front) u)) whole ∙ ap (take (length body)) (drop_at head (body ++ definitions back) (body_place front) long) ∙ take_at body (definitions back) (length body) refl
+    let head : List ℕ = definitions front ++ length body ∷ [] in
+    let split : definitions all ≡ head ++ (body ++ definitions back) =
+    definitions-append front (body ∷ back) ∙ sym (append_assoc (definitions front) (length body ∷ []) (body ++ definitions back)) in
+    let place : body_place ps ns front ≡ first_place ps ns + length head = omega (arith, length-append (definitions front) (length body ∷ [])) in
+    let there : drop (body_place ps ns front) s ≡ body ++ definitions back =
+    ap (λ n. drop n s) place ∙ sym (drop-drop (length head) (first_place ps ns) s) ∙ ap (drop (length head)) (read_first s ps ns (terms all) b e ∙ split) ∙ drop_at head (body ++ definitions back) (length head) refl in
+    ap (take (length body)) there ∙ take_at body (definitions back) (length body) refl
+
+pub places_events : PlacesEvents
+places_events s ps ns events i b e = sym (drop-drop (17 * i) (first_place ps ns) s) ∙ ap (drop (17 * i)) (read_first s ps ns (net events) b e)
 
 pub rules_kept : (r : Result Frame FrameFault) (s : List ℕ) → ((i : ℕ) → get_or s i 0 < 256) → viewed frame_view r ≡ frame_told s → IfOk r (λ f. WithinRules (frame_view f))
 rules_kept (Ok f) s b e = ((reads_frames s (frame_view f) (All-from_get_or (λ b. b < 256) s 0 (λ i h. b i))).0 (sym e)).1.1

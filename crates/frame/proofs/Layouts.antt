@@ -8,11 +8,13 @@ use Rattle.std.proofs.lemmas.Bool.{le-leb, leb-true, leb-false}
 use Rattle.frame.specs.declared.layout.Kind.{Kind}
 use Rattle.frame.specs.declared.layout.Kind.TheVariants.{Terms, Net}
 use Rattle.frame.specs.Parts.{part_told, behind_told, bodies}
-use Rattle.frame.specs.Frames.{SystemView, FrameView, counted, definitions, system_bytes, kind_of, setup_bytes, bytes_of, Whole, WholeSystem, LaidOut}
+use Rattle.actions.specs.declared.pairs.Pair.{Pair}
+use Rattle.frame.specs.Frames.{SystemView, FrameView, pair_bytes, definitions, count_of, system_bytes, kind_of, setup_bytes, bytes_of, Whole, WholeSystem, LaidOut}
 use Rattle.frame.specs.Frames.SystemView.{terms, net}
-use Rattle.frame.specs.Frames.FrameView.{setup, open_sheet, add, swap, withdraw, join, release, reopen, print}
+use Rattle.frame.specs.Frames.FrameView.{setup, open_sheet, add, swap, withdraw, join, release, reopen, print, look}
 use Rattle.frame.specs.Format.{AreBytes}
 use Rattle.frame.specs.Reading.{Layout, with_behind, net_part, system_told, with_system, with_names, with_pairs, layout_told}
+use Rattle.frame.proofs.Places.{length-pair_bytes}
 use Rattle.frame.proofs.Bodies.{all_there, bodies_end, bodies_more, behind_end, behind_missing, behind_more}
 
 -- bytes
@@ -30,6 +32,10 @@ bytes_behind : (s front rest : List ℕ) → s ≡ front ++ rest → AreBytes s 
 bytes_behind s front rest is h = subst AreBytes (ap (drop (length front)) is ∙ drop_at front rest (length front) refl) (All-drop (λ b. b < 256) (length front) s h)
 
 -- parts
+
+-- items of a size, behind a byte that counts them
+abbrev counted : ℕ → List ℕ → List ℕ
+counted size items = length items / size ∷ items
 
 pub part_built : (size : ℕ) (items rest : List ℕ) → length items / size * size ≡ length items → part_told size (counted size items ++ rest) ≡ Some (items, rest)
 part_built size items rest exact =
@@ -67,14 +73,21 @@ part_missing size pos (count ∷ s) h e = cases (leb (count * size) (length s)) 
 
 -- definitions
 
+counted_bytes : (items : List ℕ) → length items ∷ items ≡ counted 1 items
+counted_bytes items = ap (λ n. n ∷ items) (omega arith)
+
+definitions-cons : (b : List ℕ) (bs : List (List ℕ)) → definitions (b ∷ bs) ≡ counted 1 b ++ definitions bs
+unfolding definitions
+definitions-cons b bs = ap (λ t. t ++ definitions bs) (counted_bytes b)
+
 pub definitions_built : (bs : List (List ℕ)) (t : List ℕ) → (behind_told (length bs) (definitions bs ++ t) ≡ Some t) × (bodies (length bs) (definitions bs ++ t) ≡ bs)
 unfolding definitions
 definitions_built [] t = (behind_end t, bodies_end t)
 definitions_built (b ∷ bs) t =
-    let regroup : (counted 1 b ++ definitions bs) ++ t ≡ counted 1 b ++ (definitions bs ++ t) = append_assoc (counted 1 b) (definitions bs) t in
-    let told : part_told 1 ((counted 1 b ++ definitions bs) ++ t) ≡ Some (b, definitions bs ++ t) = ap (part_told 1) regroup ∙ part_built 1 b (definitions bs ++ t) (omega arith) in
+    let regroup : definitions (b ∷ bs) ++ t ≡ counted 1 b ++ (definitions bs ++ t) = ap (λ u. u ++ t) (definitions-cons b bs) ∙ append_assoc (counted 1 b) (definitions bs) t in
+    let told : part_told 1 (definitions (b ∷ bs) ++ t) ≡ Some (b, definitions bs ++ t) = ap (part_told 1) regroup ∙ part_built 1 b (definitions bs ++ t) (omega arith) in
     let (behind, same) = definitions_built bs t in
-    let s = (counted 1 b ++ definitions bs) ++ t in
+    let s = definitions (b ∷ bs) ++ t in
     let n : length (b ∷ bs) ≡ length bs + 1 = omega arith in
     (behind_more (length (b ∷ bs)) (length bs) s b (definitions bs ++ t) n told ∙ behind, bodies_more (length (b ∷ bs)) (length bs) s b (definitions bs ++ t) n told ∙ ap (λ r. b ∷ r) same)
 
@@ -93,7 +106,7 @@ definitions_sound (suc n) s rest h e = cases (definitions_sound n) (part_told 1 
         let (goes, w) = part_sound 1 (omega arith) s b t h is in
         let (later, all) = sound t rest (bytes_behind s (counted 1 b) t goes h) (sym (behind_more (suc n) n s b t (omega arith) is) ∙ e) in
         let more : bodies (suc n) s ≡ b ∷ bodies n t = bodies_more (suc n) n s b t (omega arith) is in
-        let regroup : counted 1 b ++ (definitions (bodies n t) ++ rest) ≡ (counted 1 b ++ definitions (bodies n t)) ++ rest = sym (append_assoc (counted 1 b) (definitions (bodies n t)) rest) in
+        let regroup : counted 1 b ++ (definitions (bodies n t) ++ rest) ≡ definitions (b ∷ bodies n t) ++ rest = sym (append_assoc (counted 1 b) (definitions (bodies n t)) rest) ∙ ap (λ u. u ++ rest) (sym (definitions-cons b (bodies n t))) in
         (goes ∙ ap (λ u. counted 1 b ++ u) later ∙ regroup ∙ ap (λ bs. definitions bs ++ rest) (sym more), All-same short (bodies (suc n) s) (b ∷ bodies n t) more (All-cons short b (bodies n t) (is_short b w) all))
 
 -- so many definitions with nothing in them
@@ -110,12 +123,12 @@ definitions_missing (suc n) s h e = cases (definitions_missing n) (part_told 1 s
     cases missing None is =
         let (b, more, w, goes) = part_missing 1 (omega arith) s h is in
         let count : length (b ∷ blanks n) ≡ suc n = omega (arith, length-replicate {A = List ℕ} n []) in
-        (b ∷ blanks n, more ++ definitions (blanks n), count, All-cons short b (blanks n) (is_short b w) (All-replicate short n [] (omega arith)), ap (λ u. u ++ definitions (blanks n)) goes ∙ append_assoc s more (definitions (blanks n)))
+        (b ∷ blanks n, more ++ definitions (blanks n), count, All-cons short b (blanks n) (is_short b w) (All-replicate short n [] (omega arith)), definitions-cons b (blanks n) ∙ ap (λ u. u ++ definitions (blanks n)) goes ∙ append_assoc s more (definitions (blanks n)))
     cases missing (Some (b, t)) is =
         let (goes, w) = part_sound 1 (omega arith) s b t h is in
         let (bs, more, count, all, later) = missing t (bytes_behind s (counted 1 b) t goes h) (sym (behind_more (suc n) n s b t (omega arith) is) ∙ e) in
         let longer : length (b ∷ bs) ≡ suc n = omega arith in
-        (b ∷ bs, more, longer, All-cons short b bs (is_short b w) all, ap (λ u. counted 1 b ++ u) later ∙ sym (append_assoc (counted 1 b) t more) ∙ ap (λ u. u ++ more) (sym goes))
+        (b ∷ bs, more, longer, All-cons short b bs (is_short b w) all, definitions-cons b bs ∙ ap (λ u. counted 1 b ++ u) later ∙ sym (append_assoc (counted 1 b) t more) ∙ ap (λ u. u ++ more) (sym goes))
 
 -- systems
 
@@ -132,7 +145,10 @@ exact_2 items (n, few, e) = omega arith
 exact_17 : (items : List ℕ) → Whole 17 items → length items / 17 * 17 ≡ length items
 exact_17 items (n, few, e) = omega arith
 
-system_built : (k : Kind) (system : SystemView) (t : List ℕ) → kind_of system ≡ byte_of k → WholeSystem system → system_told k (system_bytes system ++ t) ≡ Some (system, t)
+abbrev counted_system : SystemView → List ℕ
+counted_system system = count_of system ∷ system_bytes system
+
+system_built : (k : Kind) (system : SystemView) (t : List ℕ) → kind_of system ≡ byte_of k → WholeSystem system → system_told k (counted_system system ++ t) ≡ Some (system, t)
 system_built Terms (terms bs) t is w =
     let (behind, same) = definitions_built bs t in
     ap (with_behind (length bs) (definitions bs ++ t)) behind ∙ ap (λ r. Some (terms r, t)) same
@@ -142,8 +158,8 @@ system_built Net (net es) t is w = ap net_part (part_built 17 es t (exact_17 es 
 
 -- what is told of a system's bytes: they are the system's and the rest, or some system's bytes go on from them
 abbrev SystemTells : Kind → List ℕ → Option (SystemView × List ℕ) → Type 0
-SystemTells k s (Some (system, t)) = (kind_of system ≡ byte_of k) × WholeSystem system × (s ≡ system_bytes system ++ t)
-SystemTells k s None = (system : SystemView) × (more : List ℕ) × (kind_of system ≡ byte_of k) × WholeSystem system × (system_bytes system ≡ s ++ more)
+SystemTells k s (Some (system, t)) = (kind_of system ≡ byte_of k) × WholeSystem system × (s ≡ counted_system system ++ t)
+SystemTells k s None = (system : SystemView) × (more : List ℕ) × (kind_of system ≡ byte_of k) × WholeSystem system × (counted_system system ≡ s ++ more)
 
 system_tells : (k : Kind) (s : List ℕ) → AreBytes s → SystemTells k s (system_told k s)
 unfolding definitions
@@ -167,23 +183,29 @@ system_tells Net s h = cases (part_told 17 s) refl
     cases None is = let (es, more, w, goes) = part_missing 17 (omega arith) s h is in (net es, more, refl, w, goes)
     cases (Some (es, t)) is = let (goes, w) = part_sound 17 (omega arith) s es t h is in (refl, w, goes)
 
--- setups
+-- setups, by the bytes of their pairs
+
+abbrev raw_bytes : List ℕ → List ℕ → SystemView → List ℕ
+raw_bytes ps ns system = counted 2 ps ++ (counted 1 ns ++ counted_system system)
+
+abbrev RawLaid : List ℕ → List ℕ → SystemView → Type 0
+RawLaid ps ns system = Whole 2 ps × Whole 1 ns × WholeSystem system
 
 abbrev pub laid : List ℕ → List ℕ → SystemView → List ℕ → Layout
 laid ps ns system t = record { pairs = ps; names = ns; system = system; behind = t }
 
-pub layout_built : (k : Kind) (ps ns : List ℕ) (system : SystemView) (t : List ℕ) → kind_of system ≡ byte_of k → LaidOut (setup ps ns system) → layout_told k (setup_bytes ps ns system ++ t) ≡ Some (laid ps ns system t)
-layout_built k ps ns system t is (p, n, w) =
-    let a : setup_bytes ps ns system ++ t ≡ counted 2 ps ++ (counted 1 ns ++ (system_bytes system ++ t)) = append_assoc (counted 2 ps) (counted 1 ns ++ system_bytes system) t ∙ ap (λ u. counted 2 ps ++ u) (append_assoc (counted 1 ns) (system_bytes system) t) in
-    let one = part_built 2 ps (counted 1 ns ++ (system_bytes system ++ t)) (exact_2 ps p) in
-    let two = part_built 1 ns (system_bytes system ++ t) (exact_1 ns) in
+raw_built : (k : Kind) (ps ns : List ℕ) (system : SystemView) (t : List ℕ) → kind_of system ≡ byte_of k → RawLaid ps ns system → layout_told k (raw_bytes ps ns system ++ t) ≡ Some (laid ps ns system t)
+raw_built k ps ns system t is (p, n, w) =
+    let a : raw_bytes ps ns system ++ t ≡ counted 2 ps ++ (counted 1 ns ++ (counted_system system ++ t)) = append_assoc (counted 2 ps) (counted 1 ns ++ counted_system system) t ∙ ap (λ u. counted 2 ps ++ u) (append_assoc (counted 1 ns) (counted_system system) t) in
+    let one = part_built 2 ps (counted 1 ns ++ (counted_system system ++ t)) (exact_2 ps p) in
+    let two = part_built 1 ns (counted_system system ++ t) (exact_1 ns) in
     let three = system_built k system t is w in
     ap (layout_told k) a ∙ (ap (with_pairs k) one ∙ (ap (with_names k ps) two ∙ ap (with_system ps ns) three))
 
 -- what a layout tells of the bytes: they are the parts and the rest, or some parts go on from them
-abbrev pub Tells : Kind → List ℕ → Option Layout → Type 0
-Tells k s (Some l) = (kind_of l.system ≡ byte_of k) × LaidOut (setup l.pairs l.names l.system) × (s ≡ setup_bytes l.pairs l.names l.system ++ l.behind)
-Tells k s None = (ps : List ℕ) × (ns : List ℕ) × (system : SystemView) × (more : List ℕ) × (kind_of system ≡ byte_of k) × LaidOut (setup ps ns system) × (setup_bytes ps ns system ≡ s ++ more)
+abbrev Tells : Kind → List ℕ → Option Layout → Type 0
+Tells k s (Some l) = (kind_of l.system ≡ byte_of k) × RawLaid l.pairs l.names l.system × (s ≡ raw_bytes l.pairs l.names l.system ++ l.behind)
+Tells k s None = (ps : List ℕ) × (ns : List ℕ) × (system : SystemView) × (more : List ℕ) × (kind_of system ≡ byte_of k) × RawLaid ps ns system × (raw_bytes ps ns system ≡ s ++ more)
 
 -- a system of the kind with nothing in it
 empty : Kind → SystemView
@@ -208,14 +230,14 @@ tells_system k ps ns s p n None (system, more, is, w, goes) =
     let regroup : counted 2 ps ++ (counted 1 ns ++ (s ++ more)) ≡ (counted 2 ps ++ (counted 1 ns ++ s)) ++ more = simp append_assoc in
     (ps, ns, system, more, is, (p, n, w), ap (λ t. counted 2 ps ++ (counted 1 ns ++ t)) goes ∙ regroup)
 tells_system k ps ns s p n (Some (system, t)) (is, w, goes) =
-    let regroup : counted 2 ps ++ (counted 1 ns ++ (system_bytes system ++ t)) ≡ (counted 2 ps ++ (counted 1 ns ++ system_bytes system)) ++ t = simp append_assoc in
+    let regroup : counted 2 ps ++ (counted 1 ns ++ (counted_system system ++ t)) ≡ (counted 2 ps ++ (counted 1 ns ++ counted_system system)) ++ t = simp append_assoc in
     (is, (p, n, w), ap (λ u. counted 2 ps ++ (counted 1 ns ++ u)) goes ∙ regroup)
 
 tells_names : (k : Kind) (ps s : List ℕ) → AreBytes s → Whole 2 ps → (o : Option (List ℕ × List ℕ)) → part_told 1 s ≡ o → Tells k (counted 2 ps ++ s) (with_names k ps o)
 tells_names k ps s h p None is =
     let (ns, more, n, goes) = part_missing 1 (omega arith) s h is in
-    let regroup : counted 2 ps ++ ((s ++ more) ++ system_bytes (empty k)) ≡ (counted 2 ps ++ s) ++ (more ++ system_bytes (empty k)) = simp append_assoc in
-    (ps, ns, empty k, more ++ system_bytes (empty k), empty_kind k, (p, n, empty_whole k), ap (λ t. counted 2 ps ++ (t ++ system_bytes (empty k))) goes ∙ regroup)
+    let regroup : counted 2 ps ++ ((s ++ more) ++ counted_system (empty k)) ≡ (counted 2 ps ++ s) ++ (more ++ counted_system (empty k)) = simp append_assoc in
+    (ps, ns, empty k, more ++ counted_system (empty k), empty_kind k, (p, n, empty_whole k), ap (λ t. counted 2 ps ++ (t ++ counted_system (empty k))) goes ∙ regroup)
 tells_names k ps s h p (Some (ns, t)) is =
     let (goes, n) = part_sound 1 (omega arith) s ns t h is in
     subst (λ u. Tells k (counted 2 ps ++ u) (with_system ps ns (system_told k t))) (sym goes) (tells_system k ps ns t p n (system_told k t) (system_tells k t (bytes_behind s (counted 1 ns) t goes h)))
@@ -223,19 +245,71 @@ tells_names k ps s h p (Some (ns, t)) is =
 tells_pairs : (k : Kind) (s : List ℕ) → AreBytes s → (o : Option (List ℕ × List ℕ)) → part_told 2 s ≡ o → Tells k s (with_pairs k o)
 tells_pairs k s h None is =
     let (ps, more, p, goes) = part_missing 2 (omega arith) s h is in
-    let rest : List ℕ = counted 1 [] ++ system_bytes (empty k) in
+    let rest : List ℕ = counted 1 [] ++ counted_system (empty k) in
     (ps, [], empty k, more ++ rest, empty_kind k, (p, no_items 1, empty_whole k), ap (λ t. t ++ rest) goes ∙ append_assoc s more rest)
 tells_pairs k s h (Some (ps, t)) is =
     let (goes, p) = part_sound 2 (omega arith) s ps t h is in
     subst (λ u. Tells k u (with_names k ps (part_told 1 t))) (sym goes) (tells_names k ps t (bytes_behind s (counted 2 ps) t goes h) p (part_told 1 t) refl)
 
-pub layout_tells : (k : Kind) (s : List ℕ) → AreBytes s → Tells k s (layout_told k s)
+layout_tells : (k : Kind) (s : List ℕ) → AreBytes s → Tells k s (layout_told k s)
 layout_tells k s h = tells_pairs k s h (part_told 2 s) refl
+
+-- pairs and their bytes
+
+-- the pairs that bytes spell
+pairs_in : List ℕ → List Pair
+pairs_in [] = []
+pairs_in (a ∷ []) = []
+pairs_in (a ∷ b ∷ s) = record { from = a; to = b } ∷ pairs_in s
+
+pair_bytes-pairs_in : (s : List ℕ) (n : ℕ) → length s ≡ 2 * n → pair_bytes (pairs_in s) ≡ s
+unfolding pair_bytes pairs_in
+pair_bytes-pairs_in [] n even = refl
+pair_bytes-pairs_in (a ∷ []) n even = absurd (omega arith)
+pair_bytes-pairs_in (a ∷ b ∷ s) zero even = absurd (omega arith)
+pair_bytes-pairs_in (a ∷ b ∷ s) (suc n) even = ap (λ t. a ∷ b ∷ t) (pair_bytes-pairs_in s n (omega arith))
+
+-- bytes of pairs that are whole are those of some pairs
+some_pairs : (s : List ℕ) → Whole 2 s → (ps : List Pair) × (s ≡ pair_bytes ps) × (length ps ≤ 255)
+some_pairs s (n, few, even) =
+    let same = pair_bytes-pairs_in s n even in
+    (pairs_in s, sym same, omega (arith, ap length same, length-pair_bytes (pairs_in s)))
+
+raw_is : (ps : List Pair) (ns : List ℕ) (system : SystemView) → setup_bytes ps ns system ≡ raw_bytes (pair_bytes ps) ns system
+raw_is ps ns system =
+    let half : length ps ≡ length (pair_bytes ps) / 2 = omega (arith, length-pair_bytes ps) in
+    let one : length ns ≡ length ns / 1 = omega arith in
+    ap (λ n. n ∷ (pair_bytes ps ++ ((length ns ∷ ns) ++ counted_system system))) half ∙ ap (λ n. counted 2 (pair_bytes ps) ++ ((n ∷ ns) ++ counted_system system)) one
+
+raw_laid : (ps : List Pair) (ns : List ℕ) (system : SystemView) → LaidOut (setup ps ns system) → RawLaid (pair_bytes ps) ns system
+raw_laid ps ns system (p, n, w) = ((length ps, p, length-pair_bytes ps), (length ns, n, omega arith), w)
+
+few_names : (ns : List ℕ) → Whole 1 ns → length ns ≤ 255
+few_names ns (n, few, e) = omega arith
+
+-- what a layout tells of the bytes, in pairs
+abbrev pub SetupTells : Kind → List ℕ → Option Layout → Type 0
+SetupTells k s (Some l) = (ps : List Pair) × (l.pairs ≡ pair_bytes ps) × (kind_of l.system ≡ byte_of k) × LaidOut (setup ps l.names l.system) × (s ≡ setup_bytes ps l.names l.system ++ l.behind)
+SetupTells k s None = (ps : List Pair) × (ns : List ℕ) × (system : SystemView) × (more : List ℕ) × (kind_of system ≡ byte_of k) × LaidOut (setup ps ns system) × (setup_bytes ps ns system ≡ s ++ more)
+
+in_pairs : (k : Kind) (s : List ℕ) (o : Option Layout) → Tells k s o → SetupTells k s o
+in_pairs k s (Some l) (is, (p, n, w), goes) =
+    let (ps, same, few) = some_pairs l.pairs p in
+    (ps, same, is, (few, few_names l.names n, w), goes ∙ ap (λ t. t ++ l.behind) (ap (λ t. raw_bytes t l.names l.system) same ∙ sym (raw_is ps l.names l.system)))
+in_pairs k s None (rs, ns, system, more, is, (p, n, w), goes) =
+    let (ps, same, few) = some_pairs rs p in
+    (ps, ns, system, more, is, (few, few_names ns n, w), raw_is ps ns system ∙ ap (λ t. raw_bytes t ns system) (sym same) ∙ goes)
+
+pub setup_tells : (k : Kind) (s : List ℕ) → AreBytes s → SetupTells k s (layout_told k s)
+setup_tells k s h = in_pairs k s (layout_told k s) (layout_tells k s h)
+
+pub layout_built : (k : Kind) (ps : List Pair) (ns : List ℕ) (system : SystemView) (t : List ℕ) → kind_of system ≡ byte_of k → LaidOut (setup ps ns system) → layout_told k (setup_bytes ps ns system ++ t) ≡ Some (laid (pair_bytes ps) ns system t)
+layout_built k ps ns system t is l = ap (λ u. layout_told k (u ++ t)) (raw_is ps ns system) ∙ raw_built k (pair_bytes ps) ns system t is (raw_laid ps ns system l)
 
 -- the bytes of a setup that is laid out have a layout, with nothing behind
 has_layout : (k : Kind) (f : FrameView) (s : List ℕ) → LaidOut f → bytes_of f ≡ 0xA0 ∷ byte_of k ∷ s → (l : Layout) × (layout_told k s ≡ Some l) × (l.behind ≡ [])
 has_layout k (setup ps ns system) s l e =
-    (laid ps ns system [], ap (layout_told k) (sym (ap (drop 2) e) ∙ sym (append-nil (setup_bytes ps ns system))) ∙ layout_built k ps ns system [] (ap (λ t. get_or t 1 0) e) l, refl)
+    (laid (pair_bytes ps) ns system [], ap (layout_told k) (sym (ap (drop 2) e) ∙ sym (append-nil (setup_bytes ps ns system))) ∙ layout_built k ps ns system [] (ap (λ t. get_or t 1 0) e) l, refl)
 has_layout k (open_sheet sheet state) s l e = absurd (omega (arith, ap (λ t. get_or t 0 0) e))
 has_layout k (add sheet step) s l e = absurd (omega (arith, ap (λ t. get_or t 0 0) e))
 has_layout k (swap sheet place) s l e = absurd (omega (arith, ap (λ t. get_or t 0 0) e))
@@ -244,6 +318,7 @@ has_layout k (join sheet other) s l e = absurd (omega (arith, ap (λ t. get_or t
 has_layout k (release sheet) s l e = absurd (omega (arith, ap (λ t. get_or t 0 0) e))
 has_layout k (reopen sheet) s l e = absurd (omega (arith, ap (λ t. get_or t 0 0) e))
 has_layout k (print sheet) s l e = absurd (omega (arith, ap (λ t. get_or t 0 0) e))
+has_layout k (look sheet count) s l e = absurd (omega (arith, ap (λ t. get_or t 0 0) e))
 
 pub no_layout : (k : Kind) (f : FrameView) (s : List ℕ) → LaidOut f → bytes_of f ≡ 0xA0 ∷ byte_of k ∷ s → layout_told k s ≡ None → ⊥
 no_layout k f s l e none =
@@ -251,7 +326,7 @@ no_layout k f s l e none =
     absurd (none-some _ (sym none ∙ is))
 
 -- no frame goes on behind the parts that its counts ask for
-pub ends : (k : Kind) (ps ns : List ℕ) (system : SystemView) (z : List ℕ) → kind_of system ≡ byte_of k → LaidOut (setup ps ns system) → (f : FrameView) → LaidOut f → bytes_of f ≡ 0xA0 ∷ byte_of k ∷ (setup_bytes ps ns system ++ z) → z ≡ []
+pub ends : (k : Kind) (ps : List Pair) (ns : List ℕ) (system : SystemView) (z : List ℕ) → kind_of system ≡ byte_of k → LaidOut (setup ps ns system) → (f : FrameView) → LaidOut f → bytes_of f ≡ 0xA0 ∷ byte_of k ∷ (setup_bytes ps ns system ++ z) → z ≡ []
 ends k ps ns system z same l f l′ e =
     let (found, is, empty) = has_layout k f (setup_bytes ps ns system ++ z) l′ e in
     ap (λ (p : Layout). p.behind) (same_Some _ _ (sym (layout_built k ps ns system z same l) ∙ is)) ∙ empty

@@ -1,7 +1,9 @@
 pub mod Bodies
-pub mod Parts
+pub mod Behind
 pub mod Calls
 pub mod Numbers
-pub mod Layouts
 pub mod Places
+pub mod Taken
+pub mod Layouts
+pub mod Ruled
 pub mod Format

@@ -22,7 +22,3 @@ event_told events i = cond (nat_le (17 * i + 17) (length events)) (Some (event_o
 abbrev pub NextEvent : List ℕ → Option Event → List ℕ → Type 0
 NextEvent events None left = (event_told events 0 ≡ None) × (left ≡ events)
 NextEvent events (Some e) left = (event_told events 0 ≡ Some e) × (left ≡ drop 17 events)
-
--- the place of an event's first byte in the frame of a setup with no pairs and no names
-abbrev pub event_place : ℕ → ℕ
-event_place i = 5 + 17 * i

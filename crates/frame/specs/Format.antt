@@ -1,9 +1,11 @@
 -- What reading a frame promises, in words of the format alone. Assumes nothing.
-use Rattle.std.specs.Prelude.{◌≡◌, ℕ, ◌<◌, ◌≤◌, ◌↔◌, List, [], ◌∷◌, ◌++◌, length, take, drop, Ok, Err, ◌≢◌}
-use Rattle.std.specs.List.{All}
+use Rattle.std.specs.Prelude.{◌≡◌, ◌≢◌, ℕ, ◌+◌, ◌*◌, ◌<◌, ◌≤◌, true, false, ◌↔◌, List, ◌∷◌, ◌++◌, length, take, drop, Ok, Err}
+use Rattle.std.specs.List.{All, Contains}
+use Rattle.actions.specs.declared.pairs.Pair.{Pair}
+use Rattle.actions.specs.Action.{is_name}
 use Rattle.frame.specs.declared.fault.FrameFault.TheVariants.{Malformed, BadSetup}
-use Rattle.frame.specs.Frames.{SystemView, FrameView, bytes_of, LaidOut, Accepted, Begins, Many, frame_limit, body_place}
-use Rattle.frame.specs.Frames.SystemView.{terms}
+use Rattle.frame.specs.Frames.{SystemView, FrameView, pair_bytes, count_of, system_bytes, bytes_of, LaidOut, PairsAllowed, NamesAllowed, Many, Accepted, Begins, sound_pairs, all_names, pair_limit, name_limit, frame_limit, pair_place, names_place, name_place, count_place, body_place, event_place}
+use Rattle.frame.specs.Frames.SystemView.{terms, net}
 use Rattle.frame.specs.Frames.FrameView.{setup}
 use Rattle.frame.specs.Reading.{frame_told}
 
@@ -25,16 +27,47 @@ pub record MalformedAt (s : List ℕ) (place : ℕ) : Type 0 where
 abbrev pub PlacesMalformed : Type 0
 PlacesMalformed = (s : List ℕ) (place : ℕ) → AreBytes s → length s ≤ frame_limit → frame_told s ≡ Err (Malformed place) → MalformedAt s place
 
--- A setup is bad at its kind, or it is laid out and bad at the first count that is not allowed.
+-- A string is the bytes of a setup that is laid out.
+abbrev pub IsSetup : List ℕ → List Pair → List ℕ → SystemView → Type 0
+IsSetup s pairs names system = (bytes_of (setup pairs names system) ≡ s) × LaidOut (setup pairs names system)
+
+-- One of the pairs replaces the name.
+abbrev pub Replaces : List Pair → ℕ → Type 0
+Replaces pairs n = (p : Pair) × Contains pairs p × (p.from ≡ n)
+
+-- Pairs are bad at the first byte that breaks a rule: the pairs before its own are in order.
+pub data PairsBadAt : List Pair → ℕ → Type 0 where
+  from_no_name : (front : List Pair) (p : Pair) (back : List Pair) → sound_pairs front ≡ true → is_name p.from ≡ false → PairsBadAt (front ++ p ∷ back) (pair_place front)
+  from_twice : (front : List Pair) (p : Pair) (back : List Pair) → sound_pairs front ≡ true → is_name p.from ≡ true → Replaces front p.from → PairsBadAt (front ++ p ∷ back) (pair_place front)
+  to_no_name : (front : List Pair) (p : Pair) (back : List Pair) → sound_pairs front ≡ true → is_name p.from ≡ true → (Replaces front p.from → ⊥) → is_name p.to ≡ false → PairsBadAt (front ++ p ∷ back) (pair_place front + 1)
+
+-- Names, behind pairs, are bad at the first byte that is none.
+pub data NamesBadAt (pairs : List Pair) : List ℕ → ℕ → Type 0 where
+  no_name : (front : List ℕ) (n : ℕ) (back : List ℕ) → all_names front ≡ true → is_name n ≡ false → NamesBadAt pairs (front ++ n ∷ back) (name_place pairs front)
+
+-- A setup is bad at its kind, or it is laid out and bad at the first byte that breaks a rule: all before it is in order.
 pub data BadAt : List ℕ → ℕ → Type 0 where
   kind : {k : ℕ} {s : List ℕ} → (k ≢ 1) → (k ≢ 2) → BadAt (0xA0 ∷ k ∷ s) 1
-  pairs : {s : List ℕ} (ps names : List ℕ) (system : SystemView) → bytes_of (setup ps names system) ≡ s → LaidOut (setup ps names system) → 0 < length ps → BadAt s 2
-  names : {s : List ℕ} (ns : List ℕ) (system : SystemView) → bytes_of (setup [] ns system) ≡ s → LaidOut (setup [] ns system) → 0 < length ns → BadAt s 3
-  count : {s : List ℕ} (system : SystemView) → bytes_of (setup [] [] system) ≡ s → LaidOut (setup [] [] system) → Many system → BadAt s 4
+  many_pairs : {s : List ℕ} (pairs : List Pair) (names : List ℕ) (system : SystemView) → IsSetup s pairs names system → pair_limit < length pairs → BadAt s 2
+  bad_pair : {s : List ℕ} {place : ℕ} (pairs : List Pair) (names : List ℕ) (system : SystemView) → IsSetup s pairs names system → length pairs ≤ pair_limit → PairsBadAt pairs place → BadAt s place
+  many_names : {s : List ℕ} (pairs : List Pair) (names : List ℕ) (system : SystemView) → IsSetup s pairs names system → PairsAllowed pairs → name_limit < length names → BadAt s (names_place pairs)
+  bad_name : {s : List ℕ} {place : ℕ} (pairs : List Pair) (names : List ℕ) (system : SystemView) → IsSetup s pairs names system → PairsAllowed pairs → length names ≤ name_limit → NamesBadAt pairs names place → BadAt s place
+  many_parts : {s : List ℕ} (pairs : List Pair) (names : List ℕ) (system : SystemView) → IsSetup s pairs names system → PairsAllowed pairs → NamesAllowed names → Many system → BadAt s (count_place pairs names)
 
 abbrev pub PlacesBadSetups : Type 0
 PlacesBadSetups = (s : List ℕ) (place : ℕ) → AreBytes s → frame_told s ≡ Err (BadSetup place) → BadAt s place
 
+-- In the frame of a setup each part stands at its place, with what follows it behind it.
+pub record PlacesParts : Type 0 where
+  pub pairs : (front back : List Pair) (names : List ℕ) (system : SystemView) → drop (pair_place front) (bytes_of (setup (front ++ back) names system)) ≡ pair_bytes back ++ ((length names ∷ names) ++ (count_of system ∷ system_bytes system))
+  pub name_count : (pairs : List Pair) (names : List ℕ) (system : SystemView) → drop (names_place pairs) (bytes_of (setup pairs names system)) ≡ (length names ∷ names) ++ (count_of system ∷ system_bytes system)
+  pub names : (pairs : List Pair) (front back : List ℕ) (system : SystemView) → drop (name_place pairs front) (bytes_of (setup pairs (front ++ back) system)) ≡ back ++ (count_of system ∷ system_bytes system)
+  pub count : (pairs : List Pair) (names : List ℕ) (system : SystemView) → drop (count_place pairs names) (bytes_of (setup pairs names system)) ≡ count_of system ∷ system_bytes system
+
 -- In a setup that is read, each body stands at its place in the frame.
 abbrev pub PlacesBodies : Type 0
-PlacesBodies = (s pairs names : List ℕ) (front : List (List ℕ)) (body : List ℕ) (back : List (List ℕ)) → AreBytes s → frame_told s ≡ Ok (setup pairs names (terms (front ++ body ∷ back))) → take (length body) (drop (body_place front) s) ≡ body
+PlacesBodies = (s : List ℕ) (pairs : List Pair) (names : List ℕ) (front : List (List ℕ)) (body : List ℕ) (back : List (List ℕ)) → AreBytes s → frame_told s ≡ Ok (setup pairs names (terms (front ++ body ∷ back))) → take (length body) (drop (body_place pairs names front) s) ≡ body
+
+-- In a setup that is read, each event stands at its place in the frame, with those that follow it behind it.
+abbrev pub PlacesEvents : Type 0
+PlacesEvents = (s : List ℕ) (pairs : List Pair) (names events : List ℕ) (i : ℕ) → AreBytes s → frame_told s ≡ Ok (setup pairs names (net events)) → drop (event_place pairs names i) s ≡ drop (17 * i) events

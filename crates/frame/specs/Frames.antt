@@ -1,6 +1,9 @@
 -- The frames: what each holds, and its bytes. Assumes nothing.
-use Rattle.std.specs.Prelude.{◌≡◌, ℕ, ◌+◌, ◌*◌, ◌/◌, ◌<◌, ◌≤◌, List, [], ◌∷◌, ◌++◌, length}
+use Rattle.std.specs.Prelude.{◌≡◌, ℕ, ◌+◌, ◌*◌, ◌/◌, ◌<◌, ◌≤◌, true, List, [], ◌∷◌, ◌++◌, length, Some, None, Option}
 use Rattle.std.specs.List.{All}
+use Rattle.actions.specs.declared.pairs.Pair.{Pair}
+pub use Rattle.actions.specs.Pairs.{sound_pairs, pair_limit}
+pub use Rattle.actions.specs.Names.{all_names, name_limit}
 pub use Rattle.nets.specs.Events.{event_limit}
 pub use Rattle.terms.specs.Bodies.{definition_limit}
 
@@ -11,7 +14,7 @@ pub data SystemView : Type 0 where
 
 -- A frame names a call; a sheet is named by a byte.
 pub data FrameView : Type 0 where
-  setup : (pairs names : List ℕ) (system : SystemView) → FrameView
+  setup : (pairs : List Pair) (names : List ℕ) (system : SystemView) → FrameView
   open_sheet : (sheet : ℕ) (state : List ℕ) → FrameView
   add : (sheet : ℕ) (step : List ℕ) → FrameView
   swap : (sheet place : ℕ) → FrameView
@@ -20,29 +23,49 @@ pub data FrameView : Type 0 where
   release : (sheet : ℕ) → FrameView
   reopen : (sheet : ℕ) → FrameView
   print : (sheet : ℕ) → FrameView
+  look : (sheet count : ℕ) → FrameView
 
--- items of the given size, behind a byte that counts them
-abbrev pub counted : ℕ → List ℕ → List ℕ
-counted size items = length items / size ∷ items
+-- the sheet that a frame names first; a setup names none
+abbrev pub sheet_of : FrameView → Option ℕ
+sheet_of (setup pairs names system) = None
+sheet_of (open_sheet sheet state) = Some sheet
+sheet_of (add sheet step) = Some sheet
+sheet_of (swap sheet place) = Some sheet
+sheet_of (withdraw sheet) = Some sheet
+sheet_of (join sheet other) = Some sheet
+sheet_of (release sheet) = Some sheet
+sheet_of (reopen sheet) = Some sheet
+sheet_of (print sheet) = Some sheet
+sheet_of (look sheet count) = Some sheet
+
+-- pairs, each the name that is replaced and the one that is put in its place
+unfoldable pub pair_bytes : List Pair → List ℕ
+pair_bytes [] = []
+pair_bytes (p ∷ ps) = p.from ∷ p.to ∷ pair_bytes ps
 
 -- definitions, each a body behind its length
 unfoldable pub definitions : List (List ℕ) → List ℕ
 definitions [] = []
-definitions (body ∷ bodies) = counted 1 body ++ definitions bodies
+definitions (body ∷ bodies) = length body ∷ (body ++ definitions bodies)
 
--- definitions or events, behind a byte that counts them
+-- how many definitions or events there are
+abbrev pub count_of : SystemView → ℕ
+count_of (terms bodies) = length bodies
+count_of (net events) = length events / 17
+
+-- the bytes of the definitions or events
 abbrev pub system_bytes : SystemView → List ℕ
-system_bytes (terms bodies) = length bodies ∷ definitions bodies
-system_bytes (net events) = counted 17 events
+system_bytes (terms bodies) = definitions bodies
+system_bytes (net events) = events
 
 -- the byte that says which system follows
 abbrev pub kind_of : SystemView → ℕ
 kind_of (terms bodies) = 0x01
 kind_of (net events) = 0x02
 
--- pairs of names, names and the system, behind the kind of the setup
-abbrev pub setup_bytes : List ℕ → List ℕ → SystemView → List ℕ
-setup_bytes pairs names system = counted 2 pairs ++ (counted 1 names ++ system_bytes system)
+-- pairs, names and the definitions or events, each behind a byte that counts them
+abbrev pub setup_bytes : List Pair → List ℕ → SystemView → List ℕ
+setup_bytes pairs names system = (length pairs ∷ pair_bytes pairs) ++ ((length names ∷ names) ++ (count_of system ∷ system_bytes system))
 
 abbrev pub bytes_of : FrameView → List ℕ
 bytes_of (setup pairs names system) = 0xA0 ∷ kind_of system ∷ setup_bytes pairs names system
@@ -54,6 +77,7 @@ bytes_of (join sheet other) = 0xB4 ∷ sheet ∷ other ∷ []
 bytes_of (release sheet) = 0xB5 ∷ sheet ∷ []
 bytes_of (reopen sheet) = 0xB6 ∷ sheet ∷ []
 bytes_of (print sheet) = 0xB7 ∷ sheet ∷ []
+bytes_of (look sheet count) = 0xB9 ∷ sheet ∷ count ∷ []
 
 -- whole items of a size, as many as a byte can count
 abbrev pub Whole : ℕ → List ℕ → Type 0
@@ -64,9 +88,9 @@ abbrev pub WholeSystem : SystemView → Type 0
 WholeSystem (terms bodies) = (length bodies ≤ 255) × All (λ body. length body ≤ 255) bodies
 WholeSystem (net events) = Whole 17 events
 
--- The parts of a setup are whole pairs and names, and a whole system.
+-- A byte can count the pairs of a setup, and one its names, and its system is whole.
 abbrev pub LaidOut : FrameView → Type 0
-LaidOut (setup pairs names system) = Whole 2 pairs × Whole 1 names × WholeSystem system
+LaidOut (setup pairs names system) = (length pairs ≤ 255) × (length names ≤ 255) × WholeSystem system
 LaidOut (open_sheet sheet state) = Unit {0}
 LaidOut (add sheet step) = Unit {0}
 LaidOut (swap sheet place) = Unit {0}
@@ -75,10 +99,19 @@ LaidOut (join sheet other) = Unit {0}
 LaidOut (release sheet) = Unit {0}
 LaidOut (reopen sheet) = Unit {0}
 LaidOut (print sheet) = Unit {0}
+LaidOut (look sheet count) = Unit {0}
 
 -- the most bytes of a frame
 abbrev pub frame_limit : ℕ
 frame_limit = 1024
+
+-- At most 8 pairs, of names only, in which none is replaced by two.
+abbrev pub PairsAllowed : List Pair → Type 0
+PairsAllowed pairs = (length pairs ≤ pair_limit) × (sound_pairs pairs ≡ true)
+
+-- At most 8 names, and nothing else.
+abbrev pub NamesAllowed : List ℕ → Type 0
+NamesAllowed names = (length names ≤ name_limit) × (all_names names ≡ true)
 
 -- A system has at most 16 definitions, or 48 events; or it has more.
 abbrev pub Few : SystemView → Type 0
@@ -89,9 +122,9 @@ abbrev pub Many : SystemView → Type 0
 Many (terms bodies) = definition_limit < length bodies
 Many (net events) = 17 * event_limit < length events
 
--- A setup has no pairs, no names and not too many definitions or events.
+-- A setup has pairs and names that are allowed, and not too many definitions or events.
 abbrev pub WithinRules : FrameView → Type 0
-WithinRules (setup pairs names system) = (pairs ≡ []) × (names ≡ []) × Few system
+WithinRules (setup pairs names system) = PairsAllowed pairs × NamesAllowed names × Few system
 WithinRules (open_sheet sheet state) = Unit {0}
 WithinRules (add sheet step) = Unit {0}
 WithinRules (swap sheet place) = Unit {0}
@@ -100,6 +133,7 @@ WithinRules (join sheet other) = Unit {0}
 WithinRules (release sheet) = Unit {0}
 WithinRules (reopen sheet) = Unit {0}
 WithinRules (print sheet) = Unit {0}
+WithinRules (look sheet count) = Unit {0}
 
 -- A frame that is accepted: laid out, within the rules and the limit.
 abbrev pub Accepted : FrameView → Type 0
@@ -109,6 +143,32 @@ Accepted f = LaidOut f × WithinRules f × (length (bytes_of f) ≤ frame_limit)
 abbrev pub Begins : List ℕ → Type 0
 Begins s = (f : FrameView) × (more : List ℕ) × LaidOut f × (bytes_of f ≡ s ++ more)
 
--- the place of a body's first byte in the frame of a setup with no pairs and no names, behind other definitions
-abbrev pub body_place : List (List ℕ) → ℕ
-body_place front = 6 + length (definitions front)
+-- Places in the frame of a setup. The kind stands at 1, and the count of the pairs at 2.
+
+-- the first byte of a pair behind others
+abbrev pub pair_place : List Pair → ℕ
+pair_place front = 3 + 2 * length front
+
+-- the count of the names, behind the pairs
+abbrev pub names_place : List Pair → ℕ
+names_place pairs = 3 + 2 * length pairs
+
+-- a name behind others
+abbrev pub name_place : List Pair → List ℕ → ℕ
+name_place pairs front = names_place pairs + 1 + length front
+
+-- the count of the definitions or events, behind the names
+abbrev pub count_place : List Pair → List ℕ → ℕ
+count_place pairs names = names_place pairs + 1 + length names
+
+-- the first definition or event
+abbrev pub first_place : List Pair → List ℕ → ℕ
+first_place pairs names = count_place pairs names + 1
+
+-- the first byte of a body behind other definitions
+abbrev pub body_place : List Pair → List ℕ → List (List ℕ) → ℕ
+body_place pairs names front = first_place pairs names + length (definitions front) + 1
+
+-- the first byte of an event, by its number from 0
+abbrev pub event_place : List Pair → List ℕ → ℕ → ℕ
+event_place pairs names i = first_place pairs names + 17 * i

@@ -2,6 +2,8 @@ pub mod Refusals
 pub mod Parts
 pub mod Definitions
 pub mod Frames
+pub mod Systems
+pub mod Rules
 pub mod Reading
 pub mod Events
 pub mod Format

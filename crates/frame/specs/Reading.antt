@@ -1,31 +1,27 @@
 -- What reading a frame answers, step by step. Assumes nothing.
-use Rattle.std.specs.Prelude.{ℕ, ◌+◌, ◌-◌, ◌*◌, Bool, cond, List, [], ◌∷◌, length, Some, None, Ok, Err, Option, Result, ◌==◌, nat_le}
+use Rattle.std.specs.Prelude.{ℕ, ◌+◌, ◌-◌, cond, List, [], ◌∷◌, length, Some, None, Ok, Err, Option, Result, ◌==◌, nat_le}
 use Rattle.std.specs.Borrow.{Bor}
+use Rattle.actions.specs.Contents.{pairs_of, names_of}
 use Rattle.frame.specs.declared.fault.FrameFault.{FrameFault}
 use Rattle.frame.specs.declared.fault.FrameFault.TheVariants.{Malformed, BadSetup}
 use Rattle.frame.specs.declared.definition.Definitions.{Definitions}
 use Rattle.frame.specs.declared.setup.Setup.{Setup}
 use Rattle.frame.specs.declared.setup.System.{System}
-use Rattle.frame.specs.declared.setup.System.TheVariants as system_variant
+use Rattle.frame.specs.declared.parts.Parts.{Parts}
 use Rattle.frame.specs.declared.layout.Kind.{Kind}
 use Rattle.frame.specs.declared.layout.Kind.TheVariants.{Terms, Net}
 use Rattle.frame.specs.declared.frame.Frame.{Frame}
 use Rattle.frame.specs.declared.frame.Frame.TheVariants as variant
 use Rattle.frame.specs.Parts.{part_told, behind_told, bodies}
-use Rattle.frame.specs.Frames.{SystemView, FrameView, frame_limit, definition_limit, event_limit}
+use Rattle.frame.specs.Frames.{SystemView, FrameView, frame_limit}
 use Rattle.frame.specs.Frames.SystemView.{terms, net}
-use Rattle.frame.specs.Frames.FrameView.{setup, open_sheet, add, swap, withdraw, join, release, reopen, print}
+use Rattle.frame.specs.Frames.FrameView.{setup, open_sheet, add, swap, withdraw, join, release, reopen, print, look}
+use Rattle.frame.specs.Rules.{rules_told}
+pub use Rattle.frame.specs.Systems.{bodies_of, system_view}
 
 -- what a frame that was read holds
-abbrev pub bodies_of : Definitions → List (List ℕ)
-bodies_of d = bodies d.count d.bytes.now
-
-abbrev pub system_view : System → SystemView
-system_view (system_variant.Terms definitions) = terms (bodies_of definitions)
-system_view (system_variant.Net events) = net events.bytes.now
-
 abbrev pub setup_view : Setup → FrameView
-setup_view s = setup s.pairs.now s.names.now (system_view s.system)
+setup_view s = setup (pairs_of s.pairs) (names_of s.names) (system_view s.system)
 
 abbrev pub frame_view : Frame → FrameView
 frame_view (variant.Setup s) = setup_view s
@@ -37,8 +33,9 @@ frame_view (variant.Join sheet other) = join sheet other
 frame_view (variant.Release sheet) = release sheet
 frame_view (variant.Reopen sheet) = reopen sheet
 frame_view (variant.Print sheet) = print sheet
+frame_view (variant.Look sheet count) = look sheet count
 
-abbrev pub viewed : {A : Type 0} → (A → FrameView) → Result A FrameFault → Result FrameView FrameFault
+abbrev pub viewed : {A B : Type 0} → (A → B) → Result A FrameFault → Result B FrameFault
 viewed view (Ok a) = Ok (view a)
 viewed view (Err f) = Err f
 
@@ -90,23 +87,9 @@ with_pairs kind (Some (pairs, s)) = with_names kind pairs (part_told 1 s)
 abbrev pub layout_told : Kind → List ℕ → Option Layout
 layout_told kind s = with_pairs kind (part_told 2 s)
 
-abbrev pub layout_view : Option (Setup × Bor (List ℕ)) → Option Layout
+abbrev pub layout_view : Option (Parts × Bor (List ℕ)) → Option Layout
 layout_view None = None
 layout_view (Some (s, behind)) = Some (record { pairs = s.pairs.now; names = s.names.now; system = system_view s.system; behind = behind.now })
-
--- whether there are at most 16 definitions, or 48 events
-abbrev pub few : SystemView → Bool
-few (terms bodies) = nat_le (length bodies) definition_limit
-few (net events) = nat_le (length events) (17 * event_limit)
-
--- the rules of a setup: no pairs, no names, not too many definitions or events; else the place of the count
-abbrev pub rules_told : List ℕ → List ℕ → SystemView → Result FrameView FrameFault
-rules_told pairs names system =
-    cond (length pairs == 0)
-    (cond (length names == 0)
-    (cond (few system) (Ok (setup pairs names system)) (Err (BadSetup 4)))
-    (Err (BadSetup 3)))
-    (Err (BadSetup 2))
 
 -- missing bytes are told behind the end, and extra ones where they begin
 abbrev pub parts_told : ℕ → Option Layout → Result FrameView FrameFault
@@ -148,7 +131,8 @@ call_told call rest =
     (cond (call == 0xB5) (sheet_told release rest)
     (cond (call == 0xB6) (sheet_told reopen rest)
     (cond (call == 0xB7) (sheet_told print rest)
-    (Err (Malformed 0))))))))))
+    (cond (call == 0xB9) (sheet_byte_told look rest)
+    (Err (Malformed 0)))))))))))
 
 abbrev pub bytes_told : List ℕ → Result FrameView FrameFault
 bytes_told [] = Err (Malformed 0)

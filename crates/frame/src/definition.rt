@@ -13,12 +13,13 @@ pub struct Definition<'a> {
     pub body: &'a [u8],
 }
 
-// So many definitions, each a byte that counts the bytes of its body, and the body; `bytes` begins with them.
+// So many definitions, each a byte that counts the bytes of its body, and the body; `bytes` begins with them, and stands at the place in the frame.
 #[derive(Clone, Copy)]
 pub struct Definitions<'a> {
     pub count: u8,
+    pub place: u16,
     pub bytes: &'a [u8],
-    ghost within: { length bytes.now ≤ 1019 },
+    ghost within: { place + length bytes.now ≤ 1024 },
     ghost whole: { length (bodies count bytes.now) ≡ count },
 }
 
@@ -32,15 +33,15 @@ pub struct DefinitionsIter<'a> {
 }
 
 impl<'a> Definitions<'a> {
-    // The definitions, from the first on, of a setup that was accepted: they begin at place 5 of the frame.
+    // The definitions, from the first on.
     pub fn iter(&self) -> DefinitionsIter<'a>
         ensures count { result.count ≡ self.now.count }
-        ensures place { result.place ≡ 5 }
+        ensures place { result.place ≡ self.now.place }
         ensures rest { result.rest.now ≡ self.now.bytes.now }
     {
         DefinitionsIter {
             count: self.count,
-            place: 5,
+            place: self.place,
             rest: self.bytes,
         }
     }

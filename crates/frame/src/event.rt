@@ -1,14 +1,16 @@
 // The events of a setup, decoded.
-ghost use Rattle.std.specs.Prelude.{◌≡◌, ◌/◌, length};
+ghost use Rattle.std.specs.Prelude.{◌≡◌, ◌+◌, ◌*◌, ◌/◌, ◌≤◌, length};
 ghost use Rattle.std.specs.Iterator.{at_most};
-ghost use Rattle.frame.specs.Events.{NextEvent, event_place};
+ghost use Rattle.frame.specs.Events.{NextEvent};
 
 use nets::event::Event;
 
-// Events of seventeen bytes, one behind the other: an action, and the sets before and after it.
+// Events of seventeen bytes, one behind the other: an action, and the sets before and after it. They stand at the place in the frame.
 #[derive(Clone, Copy)]
 pub struct Events<'a> {
+    pub place: u16,
     pub bytes: &'a [u8],
+    ghost within: { place + length bytes.now ≤ 1024 },
 }
 
 // The events that are left.
@@ -25,11 +27,11 @@ impl<'a> Events<'a> {
         EventsIter { rest: self.bytes }
     }
 
-    // The place in the frame of an event's first byte, in a setup that was accepted.
-    pub fn place(i: u8) -> u16
-        ensures { result ≡ event_place i }
+    // The place in the frame of an event's first byte, by its number from 0.
+    pub fn place_of(&self, i: u8) -> u16
+        ensures { result ≡ self.now.place + 17 * i }
     {
-        5 + 17 * u16::from(i)
+        self.place + 17 * u16::from(i)
     }
 }
 

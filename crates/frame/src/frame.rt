@@ -1,8 +1,8 @@
 // Frames and the calls that they name.
 ghost use Rattle.std.specs.Prelude.{◌≡◌, ◌<◌, IfOk, length};
-ghost use Rattle.frame.specs.Frames.{WithinRules};
+ghost use Rattle.frame.specs.Frames.{WithinRules, sheet_of};
 ghost use Rattle.frame.specs.Reading.{frame_told, call_told, frame_view, viewed, sheet_told, sheet_byte_told};
-ghost use Rattle.frame.specs.Format.{AreBytes, ReadsFrames, PlacesMalformed, PlacesBadSetups, PlacesBodies};
+ghost use Rattle.frame.specs.Format.{AreBytes, ReadsFrames, PlacesMalformed, PlacesBadSetups, PlacesParts, PlacesBodies, PlacesEvents};
 
 use crate::fault::FrameFault;
 use crate::setup::Setup;
@@ -19,6 +19,7 @@ pub enum Frame<'a> {
     Release { sheet: u8 },
     Reopen { sheet: u8 },
     Print { sheet: u8 },
+    Look { sheet: u8, count: u8 },
 }
 
 // The most bytes of a frame.
@@ -33,7 +34,9 @@ impl Frame<'_> {
         ensures frames { ReadsFrames }
         ensures malformed { PlacesMalformed }
         ensures setups { PlacesBadSetups }
+        ensures parts { PlacesParts }
         ensures bodies { PlacesBodies }
+        ensures events { PlacesEvents }
     {
         if frame.len() > FRAME_LIMIT {
             return Err(FrameFault::Malformed(1024));
@@ -44,6 +47,25 @@ impl Frame<'_> {
         };
         read_call(*call, rest)
     }
+
+    // The sheet that a frame names first; none where it is a setup.
+    pub fn sheet(&self) -> Option<u8>
+        ensures { result ≡ sheet_of (frame_view self.now) }
+    {
+        let sheet = match self {
+            Frame::Setup(_) => return None,
+            Frame::Open { sheet, .. } => sheet,
+            Frame::Add { sheet, .. } => sheet,
+            Frame::Swap { sheet, .. } => sheet,
+            Frame::Withdraw { sheet } => sheet,
+            Frame::Join { sheet, .. } => sheet,
+            Frame::Release { sheet } => sheet,
+            Frame::Reopen { sheet } => sheet,
+            Frame::Print { sheet } => sheet,
+            Frame::Look { sheet, .. } => sheet,
+        };
+        Some(*sheet)
+    }
 }
 
 // Reads what stands behind the byte that names the call.
@@ -53,7 +75,11 @@ fn read_call(call: u8, rest: &[u8]) -> Result<Frame<'_>, FrameFault>
 {
     // By the byte itself: here it becomes the enum of frames, and an enum of calls between would say each byte twice.
     let frame = match call {
-        0xA0 => Frame::Setup(Setup::read(rest)?),
+        // No `?`: it has no proof at a value that holds a loan and a list of fixed places.
+        0xA0 => match Setup::read(rest) {
+            Ok(setup) => Frame::Setup(setup),
+            Err(fault) => return Err(fault),
+        },
         0xB0 => {
             let (sheet, state) = rest.split_first().ok_or(FrameFault::Malformed(1))?;
             Frame::Open {
@@ -88,6 +114,10 @@ fn read_call(call: u8, rest: &[u8]) -> Result<Frame<'_>, FrameFault>
         0xB7 => Frame::Print {
             sheet: alone(rest)?,
         },
+        0xB9 => {
+            let (sheet, count) = with_byte(rest)?;
+            Frame::Look { sheet, count }
+        }
         _ => return Err(FrameFault::Malformed(0)),
     };
     Ok(frame)

@@ -1,12 +1,14 @@
 // The layout of a setup: its parts taken apart.
-ghost use Rattle.std.specs.Prelude.{◌≡◌, ◌*◌, ◌<◌, ◌≤◌, IfSome, length};
+ghost use Rattle.std.specs.Prelude.{◌≡◌, ◌+◌, ◌*◌, ◌<◌, ◌≤◌, IfSome, length};
 ghost use Rattle.byte_strings.specs.Lent.{part_view, pair_view};
 ghost use Rattle.frame.specs.Parts.{part_told, behind_told};
+ghost use Rattle.frame.specs.Systems.{place_of};
 ghost use Rattle.frame.specs.Reading.{layout_told, layout_view, system_told, system_part_view, terms_told, definitions_view};
 
 use crate::definition::Definitions;
 use crate::event::Events;
-use crate::setup::{Setup, System};
+use crate::parts::Parts;
+use crate::setup::System;
 
 // The kinds of setups.
 #[derive(Clone, Copy)]
@@ -16,47 +18,52 @@ pub(crate) enum Kind {
 }
 
 // Takes the bytes behind the kind of a setup apart: its parts, and the bytes behind them.
-pub(crate) fn layout(kind: Kind, fields: &[u8]) -> Option<(Setup<'_>, &[u8])>
+pub(crate) fn layout(kind: Kind, fields: &[u8]) -> Option<(Parts<'_>, &[u8])>
     requires { length fields.now < 1023 }
     ensures { layout_view result ≡ layout_told kind fields.now }
 {
     let (pairs, rest) = split_off(fields, 2)?;
     let (names, rest) = split_off(rest, 1)?;
-    let (system, behind) = split_system(kind, rest)?;
-    let setup = Setup {
+    // Five bytes stand before the system beside the pairs and the names: the call, the kind and three counts.
+    let place = 5 + (pairs.len() + names.len()) as u16;
+    let (system, behind) = split_system(kind, place, rest)?;
+    let parts = Parts {
         pairs,
         names,
         system,
     };
-    Some((setup, behind))
+    Some((parts, behind))
 }
 
-// Splits off the count of definitions or events, and these; what stands behind them comes second.
-fn split_system(kind: Kind, bytes: &[u8]) -> Option<(System<'_>, &[u8])>
-    requires { length bytes.now ≤ 1020 }
-    ensures { system_part_view result ≡ system_told kind bytes.now }
+// Splits off the count of definitions or events, and these, which stand at the place; what stands behind them comes second.
+fn split_system(kind: Kind, place: u16, bytes: &[u8]) -> Option<(System<'_>, &[u8])>
+    requires { place + length bytes.now ≤ 1025 }
+    ensures view { system_part_view result ≡ system_told kind bytes.now }
+    ensures placed { IfSome result (λ part. place_of part.0 ≡ place) }
 {
     match kind {
         Kind::Terms => {
-            let (definitions, behind) = split_definitions(bytes)?;
+            let (definitions, behind) = split_definitions(place, bytes)?;
             Some((System::Terms(definitions), behind))
         }
         Kind::Net => {
             let (bytes, behind) = split_off(bytes, 17)?;
-            Some((System::Net(Events { bytes }), behind))
+            Some((System::Net(Events { place, bytes }), behind))
         }
     }
 }
 
-// Splits off a byte that counts definitions, and these.
-fn split_definitions(bytes: &[u8]) -> Option<(Definitions<'_>, &[u8])>
-    requires { length bytes.now ≤ 1020 }
-    ensures { definitions_view result ≡ terms_told bytes.now }
+// Splits off a byte that counts definitions, and these, which stand at the place.
+fn split_definitions(place: u16, bytes: &[u8]) -> Option<(Definitions<'_>, &[u8])>
+    requires { place + length bytes.now ≤ 1025 }
+    ensures view { definitions_view result ≡ terms_told bytes.now }
+    ensures placed { IfSome result (λ part. part.0.place ≡ place) }
 {
     let (count, bytes) = bytes.split_first()?;
     let behind = skip_definitions(*count, bytes)?;
     let definitions = Definitions {
         count: *count,
+        place,
         bytes,
     };
     Some((definitions, behind))

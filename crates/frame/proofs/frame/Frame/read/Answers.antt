@@ -1,15 +1,16 @@
 use Rattle.std.proofs.Common.{◌<◌, sym, ◌∙◌, arith, rules, ltb-false}
 use Rattle.std.proofs.lemmas.List.{take_rest}
 use Rattle.std.proofs.lemmas.List.Elements.{All-from_get_or}
-use Rattle.frame.proofs.Format.{reads_frames, places_malformed, places_bad_setups, places_bodies, rules_kept}
+use Rattle.frame.proofs.Format.{reads_frames, places_malformed, places_bad_setups, places_bodies, places_events, rules_kept}
+use Rattle.frame.proofs.Places.{places_parts}
 use Rattle.frame.proofs.Calls.{within_told, call_read}
 use Rattle.frame.proofs.frame.Frame.read.Goals as goal
 
 pub returns-then-frame-gt-FRAME_LIMIT : goal.returns-then-frame-gt-FRAME_LIMIT
-returns-then-frame-gt-FRAME_LIMIT c = record { answer = search rules; rules = tt; bytes = All-from_get_or (λ b. b < 256) c.args.frame.now 0 (λ i _. omega (arith, c.type_inv.frame i)); frames = reads_frames; malformed = places_malformed; setups = places_bad_setups; bodies = places_bodies }
+returns-then-frame-gt-FRAME_LIMIT c = record { answer = search rules; rules = tt; bytes = All-from_get_or (λ b. b < 256) c.args.frame.now 0 (λ i _. omega (arith, c.type_inv.frame i)); frames = reads_frames; malformed = places_malformed; setups = places_bad_setups; parts = places_parts; bodies = places_bodies; events = places_events }
 
 pub returns-in_default : goal.returns-in_default
-returns-in_default c = record { answer = search rules; rules = tt; bytes = All-from_get_or (λ b. b < 256) c.args.frame.now 0 (λ i _. omega (arith, c.type_inv.frame i)); frames = reads_frames; malformed = places_malformed; setups = places_bad_setups; bodies = places_bodies }
+returns-in_default c = record { answer = search rules; rules = tt; bytes = All-from_get_or (λ b. b < 256) c.args.frame.now 0 (λ i _. omega (arith, c.type_inv.frame i)); frames = reads_frames; malformed = places_malformed; setups = places_bad_setups; parts = places_parts; bodies = places_bodies; events = places_events }
 
 pub returns : goal.returns
 returns c =
@@ -21,5 +22,7 @@ returns c =
       frames = reads_frames;
       malformed = places_malformed;
       setups = places_bad_setups;
+      parts = places_parts;
       bodies = places_bodies;
+      events = places_events;
     }

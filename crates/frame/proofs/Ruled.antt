@@ -1,0 +1,231 @@
+-- The rules of a setup: what is taken is in order, and what is refused stands at the first byte that breaks one.
+use Rattle.std.proofs.Common.{◌≡◌, ℕ, ◌+◌, ◌*◌, ◌<◌, ◌≤◌, Bool, true, false, cond, not, ◌⊎◌, inl, inr, is_some, nat_eq, nat_lt, leb, List, [], ◌∷◌, ◌++◌, length, Some, None, Ok, Err, Option, Result, sym, refl, ap, ◌∙◌, subst, arith}
+use Rattle.std.proofs.lemmas.List.{append_assoc, append-nil, length-append}
+use Rattle.std.proofs.lemmas.List.Elements.{Contains-append_left, Contains-append_right, Contains-append_cases, Contains-push, Contains-push_cases}
+use Rattle.std.proofs.lemmas.Option.{none-some}
+use Rattle.std.proofs.lemmas.Bool.{cond_both, cond-true, and_parts, leb-true, leb-false, lt-ltb, eqb-true}
+use Rattle.actions.specs.declared.pairs.Pair.{Pair}
+use Rattle.actions.specs.declared.pairs.PairFault.{PairFault}
+use Rattle.actions.specs.declared.pairs.PairFault.TheVariants.{Full, FromNoName, FromTwice, ToNoName}
+use Rattle.actions.specs.declared.names.NameFault.{NameFault}
+use Rattle.actions.specs.declared.names.NameFault.TheVariants as name_variant
+use Rattle.actions.specs.Action.{is_name}
+use Rattle.actions.specs.Pairs.{to_of, sound_pairs, beside_fault, pair_fault}
+use Rattle.actions.specs.Names.{all_names, name_fault}
+use Rattle.actions.proofs.Listed.{all_names_push}
+use Rattle.actions.proofs.Paired.{sound_from, sound_to, sound_once, sound_rest, sound_push, listed, room}
+use Rattle.frame.specs.declared.fault.FrameFault.{FrameFault}
+use Rattle.frame.specs.declared.fault.FrameFault.TheVariants.{Malformed, BadSetup}
+use Rattle.frame.specs.Frames.{PairsAllowed, NamesAllowed, pair_bytes, pair_limit, name_limit, pair_place, names_place, name_place}
+use Rattle.frame.specs.Rules.{fault_offset, pairs_added, pairs_told, names_added, names_told}
+use Rattle.frame.specs.Format.{Replaces, PairsBadAt, NamesBadAt}
+use Rattle.frame.specs.Format.PairsBadAt.{from_no_name, from_twice, to_no_name}
+use Rattle.frame.specs.Format.NamesBadAt.{no_name}
+use Rattle.frame.proofs.Places.{length-pair_bytes}
+
+-- one pair beside others
+
+replaces : (ps : List Pair) (n : ℕ) → is_some (to_of ps n) ≡ true → Replaces ps n
+replaces [] n h = cc
+replaces (p ∷ ps) n h = cases (replaces ps n) (nat_eq p.from n) refl h
+  where
+    cases : (is_some (to_of ps n) ≡ true → Replaces ps n) → (b : Bool) → nat_eq p.from n ≡ b → is_some (cond b (Some p.to) (to_of ps n)) ≡ true → Replaces (p ∷ ps) n
+    cases later true is h = (p, Contains-append_left (p ∷ []) ps p (Contains-push [] p), eqb-true p.from n is)
+    cases later false is h = let (q, has, e) = later h in (q, Contains-append_right (p ∷ []) ps q has, e)
+
+replaces_none : (ps : List Pair) (n : ℕ) → sound_pairs ps ≡ true → to_of ps n ≡ None → Replaces ps n → ⊥
+replaces_none ps n sound none (p, has, e) = none-some p.to (sym none ∙ ap (to_of ps) (sym e) ∙ listed ps p sound has)
+
+absent : (o : Option ℕ) → is_some o ≡ false → o ≡ None
+absent None h = refl
+absent (Some n) h = cc
+
+abbrev BesideSays : List Pair → Pair → Option PairFault → Type 0
+BesideSays ps p None = (is_name p.from ≡ true) × (is_name p.to ≡ true) × (to_of ps p.from ≡ None)
+BesideSays ps p (Some Full) = ⊥
+BesideSays ps p (Some FromNoName) = is_name p.from ≡ false
+BesideSays ps p (Some FromTwice) = (is_name p.from ≡ true) × Replaces ps p.from
+BesideSays ps p (Some ToNoName) = (is_name p.from ≡ true) × (to_of ps p.from ≡ None) × (is_name p.to ≡ false)
+
+beside_says : (ps : List Pair) (p : Pair) → BesideSays ps p (beside_fault ps p)
+beside_says ps p =
+    cond_both (is_name p.from) _ _ (BesideSays ps p)
+    (λ from. cond_both (is_some (to_of ps p.from)) _ _ (BesideSays ps p)
+    (λ twice. (from, replaces ps p.from twice))
+    (λ once. cond_both (is_name p.to) _ _ (BesideSays ps p)
+    (λ to. (from, to, absent (to_of ps p.from) once))
+    (λ no_to. (from, absent (to_of ps p.from) once, no_to))))
+    (λ no_from. no_from)
+
+-- pairs, one behind the other
+
+abbrev PairsSay : List Pair → Result (List Pair) FrameFault → Type 0
+PairsSay all (Ok qs) = (qs ≡ all) × (sound_pairs all ≡ true)
+PairsSay all (Err (Malformed place)) = ⊥
+PairsSay all (Err (BadSetup place)) = PairsBadAt all place
+
+pairs_say : (back front : List Pair) → sound_pairs front ≡ true → length (front ++ back) ≤ pair_limit → PairsSay (front ++ back) (pairs_added front (pair_place front) (pair_bytes back))
+unfolding pairs_added pair_bytes
+pairs_say [] front sound few = (sym (append-nil front), subst (λ t. sound_pairs t ≡ true) (sym (append-nil front)) sound)
+pairs_say (p ∷ back) front sound few = cases (pairs_say back) (pair_fault front p) (subst (BesideSays front p) (sym (room front p less)) (beside_says front p))
+  where
+    less : length front < pair_limit
+    less = omega (arith, length-append front (p ∷ back))
+
+    here : pair_place front ≡ pair_place front + 0
+    here = omega arith
+
+    cases : ((front : List Pair) → sound_pairs front ≡ true → length (front ++ back) ≤ pair_limit → PairsSay (front ++ back) (pairs_added front (pair_place front) (pair_bytes back)))
+        → (o : Option PairFault) → BesideSays front p o
+        → PairsSay (front ++ p ∷ back) (elim (elim o as (λ _. Result (List Pair) FrameFault) [ None ↦ Ok (front ++ p ∷ []) | Some f ↦ Err (BadSetup (pair_place front + fault_offset f)) ]) as (λ _. Result (List Pair) FrameFault) [ Ok qs ↦ pairs_added qs (pair_place front + 2) (pair_bytes back) | Err f ↦ Err f ])
+    cases say None (from, to, new) =
+        let all : (front ++ p ∷ []) ++ back ≡ front ++ p ∷ back = append_assoc front (p ∷ []) back in
+        let next : pair_place (front ++ p ∷ []) ≡ pair_place front + 2 = omega (arith, length-append front (p ∷ [])) in
+        let later = say (front ++ p ∷ []) (sound_push front p sound from to new) (omega (arith, few, ap length all)) in
+        subst (λ k. PairsSay (front ++ p ∷ back) (pairs_added (front ++ p ∷ []) k (pair_bytes back))) next
+        (subst (λ t. PairsSay t (pairs_added (front ++ p ∷ []) (pair_place (front ++ p ∷ [])) (pair_bytes back))) all later)
+    cases say (Some Full) h = absurd h
+    cases say (Some FromNoName) h = subst (PairsBadAt (front ++ p ∷ back)) here (from_no_name front p back sound h)
+    cases say (Some FromTwice) (from, twice) = subst (PairsBadAt (front ++ p ∷ back)) here (from_twice front p back sound from twice)
+    cases say (Some ToNoName) (from, new, no_to) = to_no_name front p back sound from (replaces_none front p.from sound new) no_to
+
+-- what is told of the pairs of a setup
+abbrev pub PairsTold : List Pair → Result (List Pair) FrameFault → Type 0
+PairsTold ps (Ok qs) = (qs ≡ ps) × PairsAllowed ps
+PairsTold ps (Err (Malformed place)) = ⊥
+PairsTold ps (Err (BadSetup place)) = ((pair_limit < length ps) × (place ≡ 2)) ⊎ ((length ps ≤ pair_limit) × PairsBadAt ps place)
+
+pub told_pairs : (ps : List Pair) → PairsTold ps (pairs_told (pair_bytes ps))
+told_pairs ps =
+    cond_both (leb (length (pair_bytes ps)) (2 * pair_limit)) _ _ (PairsTold ps)
+    (λ is. let few : length ps ≤ pair_limit = omega (arith, leb-true _ _ is, length-pair_bytes ps) in said (pairs_added [] 3 (pair_bytes ps)) few (pairs_say ps [] refl few))
+    (λ is. inl (omega (arith, leb-false _ _ is, length-pair_bytes ps), refl))
+  where
+    said : (r : Result (List Pair) FrameFault) → length ps ≤ pair_limit → PairsSay ps r → PairsTold ps r
+    said (Ok qs) few (same, sound) = (same, (few, sound))
+    said (Err (Malformed place)) few h = absurd h
+    said (Err (BadSetup place)) few h = inr (few, h)
+
+-- names, one behind the other
+
+abbrev NameSays : ℕ → Option NameFault → Type 0
+NameSays n None = is_name n ≡ true
+NameSays n (Some name_variant.Full) = ⊥
+NameSays n (Some name_variant.NoName) = is_name n ≡ false
+
+name_says : (ns : List ℕ) (n : ℕ) → length ns < name_limit → NameSays n (name_fault ns n)
+name_says ns n less =
+    let spare = cond-true (nat_lt (length ns) name_limit) (cond (is_name n) None (Some name_variant.NoName)) (Some name_variant.Full) (lt-ltb (length ns) name_limit less) in
+    subst (NameSays n) (sym spare) (cond_both (is_name n) _ _ (NameSays n) (λ is. is) (λ is. is))
+
+abbrev NamesSay : List Pair → List ℕ → Result (List ℕ) FrameFault → Type 0
+NamesSay pairs all (Ok ms) = (ms ≡ all) × (all_names all ≡ true)
+NamesSay pairs all (Err (Malformed place)) = ⊥
+NamesSay pairs all (Err (BadSetup place)) = NamesBadAt pairs all place
+
+names_say : (pairs : List Pair) (back front : List ℕ) → all_names front ≡ true → length (front ++ back) ≤ name_limit → NamesSay pairs (front ++ back) (names_added front (name_place pairs front) back)
+unfolding names_added
+names_say pairs [] front sound few = (sym (append-nil front), subst (λ t. all_names t ≡ true) (sym (append-nil front)) sound)
+names_say pairs (n ∷ back) front sound few = cases (names_say pairs back) (name_fault front n) (name_says front n less)
+  where
+    less : length front < name_limit
+    less = omega (arith, length-append front (n ∷ back))
+
+    cases : ((front : List ℕ) → all_names front ≡ true → length (front ++ back) ≤ name_limit → NamesSay pairs (front ++ back) (names_added front (name_place pairs front) back))
+        → (o : Option NameFault) → NameSays n o
+        → NamesSay pairs (front ++ n ∷ back) (elim o as (λ _. Result (List ℕ) FrameFault) [ None ↦ names_added (front ++ n ∷ []) (name_place pairs front + 1) back | Some f ↦ Err (BadSetup (name_place pairs front)) ])
+    cases say None name =
+        let all : (front ++ n ∷ []) ++ back ≡ front ++ n ∷ back = append_assoc front (n ∷ []) back in
+        let next : name_place pairs (front ++ n ∷ []) ≡ name_place pairs front + 1 = omega (arith, length-append front (n ∷ [])) in
+        let later = say (front ++ n ∷ []) (all_names_push front n sound name) (omega (arith, few, ap length all)) in
+        subst (λ k. NamesSay pairs (front ++ n ∷ back) (names_added (front ++ n ∷ []) k back)) next
+        (subst (λ t. NamesSay pairs t (names_added (front ++ n ∷ []) (name_place pairs (front ++ n ∷ [])) back)) all later)
+    cases say (Some name_variant.Full) h = absurd h
+    cases say (Some name_variant.NoName) h = no_name front n back sound h
+
+-- what is told of the names of a setup
+abbrev pub NamesTold : List Pair → List ℕ → Result (List ℕ) FrameFault → Type 0
+NamesTold pairs ns (Ok ms) = (ms ≡ ns) × NamesAllowed ns
+NamesTold pairs ns (Err (Malformed place)) = ⊥
+NamesTold pairs ns (Err (BadSetup place)) = ((name_limit < length ns) × (place ≡ names_place pairs)) ⊎ ((length ns ≤ name_limit) × NamesBadAt pairs ns place)
+
+pub told_names : (pairs : List Pair) (ns : List ℕ) → NamesTold pairs ns (names_told (names_place pairs) ns)
+told_names pairs ns =
+    cond_both (leb (length ns) name_limit) _ _ (NamesTold pairs ns)
+    (λ is. said (names_added [] (names_place pairs + 1) ns) (leb-true _ _ is) (subst (λ k. NamesSay pairs ns (names_added [] k ns)) first (names_say pairs ns [] refl (leb-true _ _ is))))
+    (λ is. inl (leb-false _ _ is, refl))
+  where
+    first : name_place pairs [] ≡ names_place pairs + 1
+    first = omega arith
+
+    said : (r : Result (List ℕ) FrameFault) → length ns ≤ name_limit → NamesSay pairs ns r → NamesTold pairs ns r
+    said (Ok ms) few (same, sound) = (same, (few, sound))
+    said (Err (Malformed place)) few h = absurd h
+    said (Err (BadSetup place)) few h = inr (few, h)
+
+-- what is allowed is taken
+
+not-true : (b : Bool) → not b ≡ true → b ≡ false
+not-true true h = cc
+not-true false h = refl
+
+sound_in : (front : List Pair) (p : Pair) (back : List Pair) → sound_pairs (front ++ p ∷ back) ≡ true → (is_name p.from ≡ true) × (is_name p.to ≡ true) × (Replaces front p.from → ⊥)
+sound_in [] p back sound = (sound_from p back sound, sound_to p back sound, none)
+  where
+    none : Replaces [] p.from → ⊥
+    none (q, (k, below, at), e) = absurd (omega arith)
+sound_in (q ∷ front) p back sound =
+    let (from, to, new) = sound_in front p back (sound_rest q (front ++ p ∷ back) sound) in
+    (from, to, none new)
+  where
+    found : to_of (front ++ p ∷ back) p.from ≡ Some p.to
+    found = listed (front ++ p ∷ back) p (sound_rest q (front ++ p ∷ back) sound) (Contains-append_right front (p ∷ back) p (Contains-append_left (p ∷ []) back p (Contains-push [] p)))
+
+    once : is_some (to_of (front ++ p ∷ back) q.from) ≡ false
+    once = not-true (is_some (to_of (front ++ p ∷ back) q.from)) (sound_once q (front ++ p ∷ back) sound)
+
+    first : (r : Pair) → q ≡ r → r.from ≡ p.from → ⊥
+    first r same e =
+        let there : is_some (to_of (front ++ p ∷ back) q.from) ≡ true = ap (λ s. is_some (to_of (front ++ p ∷ back) s.from)) same ∙ ap (λ n. is_some (to_of (front ++ p ∷ back) n)) e ∙ ap (λ (o : Option ℕ). is_some o) found in
+        let clash : true ≡ false = sym there ∙ once in
+        cc
+
+    none : (Replaces front p.from → ⊥) → Replaces (q ∷ front) p.from → ⊥
+    none new (r, has, e) =
+        elim (Contains-append_cases (q ∷ []) front r has) [
+          | inl one ↦ elim (Contains-push_cases [] q r one) [
+            | inl (k, below, at) ↦ absurd (omega arith)
+            | inr same ↦ first r same e
+          ]
+          | inr later ↦ new (r, later, e)
+        ]
+
+pairs_sound : (ps : List Pair) (place : ℕ) → PairsBadAt ps place → sound_pairs ps ≡ true → ⊥
+pairs_sound ps place (from_no_name front p back before no_from) sound = let yes = (sound_in front p back sound).0 in cc
+pairs_sound ps place (from_twice front p back before from twice) sound = (sound_in front p back sound).2 twice
+pairs_sound ps place (to_no_name front p back before from new no_to) sound = let yes = (sound_in front p back sound).1 in cc
+
+pub pairs_kept : (ps : List Pair) → PairsAllowed ps → pairs_told (pair_bytes ps) ≡ Ok ps
+pairs_kept ps (few, sound) = kept (pairs_told (pair_bytes ps)) (told_pairs ps)
+  where
+    kept : (r : Result (List Pair) FrameFault) → PairsTold ps r → r ≡ Ok ps
+    kept (Ok qs) (same, allowed) = ap Ok same
+    kept (Err (Malformed place)) h = absurd h
+    kept (Err (BadSetup place)) (inl (many, at)) = absurd (omega arith)
+    kept (Err (BadSetup place)) (inr (enough, bad)) = absurd (pairs_sound ps place bad sound)
+
+name_in : (front : List ℕ) (n : ℕ) (back : List ℕ) → all_names (front ++ n ∷ back) ≡ true → is_name n ≡ true
+name_in [] n back h = (and_parts (is_name n) (all_names back) h).0
+name_in (m ∷ front) n back h = name_in front n back (and_parts (is_name m) (all_names (front ++ n ∷ back)) h).1
+
+names_sound : (pairs : List Pair) (ns : List ℕ) (place : ℕ) → NamesBadAt pairs ns place → all_names ns ≡ true → ⊥
+names_sound pairs ns place (no_name front n back before not_one) h = let yes = name_in front n back h in cc
+
+pub names_kept : (pairs : List Pair) (ns : List ℕ) → NamesAllowed ns → names_told (names_place pairs) ns ≡ Ok ns
+names_kept pairs ns (few, sound) = kept (names_told (names_place pairs) ns) (told_names pairs ns)
+  where
+    kept : (r : Result (List ℕ) FrameFault) → NamesTold pairs ns r → r ≡ Ok ns
+    kept (Ok ms) (same, allowed) = ap Ok same
+    kept (Err (Malformed place)) h = absurd h
+    kept (Err (BadSetup place)) (inl (many, at)) = absurd (omega arith)
+    kept (Err (BadSetup place)) (inr (enough, bad)) = absurd (names_sound pairs ns place bad sound)
