@@ -106,6 +106,8 @@ module _ (ns : List ℕ) (names : all_names ns ≡ true) (t : Transitions) where
         moves = stays_move;
         rests = stays_left i;
         sent_back = is_sent_back;
+        states = refl;
+        labels = refl;
         shape_first = is_shape_first i;
       }
 

@@ -25,6 +25,9 @@ pub record MaskedSteps (ns : List ℕ) (t : Transitions) (i : Independence) : Ty
   pub moves : (a x b : Str) → ((masked ns t).next a x ≡ Ok b) ↔ ((t.next a x ≡ Ok b) × (ShowsListed ns (t.label x).action → ⊥))
   pub rests : (x y z : Str) → ((masked_independence ns t i).left x y ≡ Some z) ↔ ((i.left x y ≡ Some z) × (ShowsListed ns (t.label x).action → ⊥) × (ShowsListed ns (t.label y).action → ⊥))
   pub sent_back : (x : Str) → t.bad_step x ≡ None → ShowsListed ns (t.label x).action → step_told (masked ns t) x ≡ Err Masked
+  -- states, and what a step shows, are as inside
+  pub states : (masked ns t).state ≡ t.state
+  pub labels : (masked ns t).label ≡ t.label
   -- of two strings the one that is no step is told first
   pub shape_first : (x y : Str) (p : ℕ) → t.bad_step x ≡ None → t.bad_step y ≡ Some p → independent_told (masked ns t) (masked_independence ns t i) x y ≡ Err (Inner (NoStep p))
 
