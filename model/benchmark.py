@@ -1,5 +1,9 @@
 #!/usr/bin/env python3
-"""Times a program and the model on the same inputs: a long random session, joins of long runs, calls on long terms."""
+"""Times a program and the model on the same inputs.
+
+These are a long random session of all calls, joins of long runs, calls on
+sheets of different lengths, and calls on long terms.
+"""
 
 from __future__ import annotations
 
@@ -7,6 +11,7 @@ import argparse
 import subprocess
 import sys
 import time
+from collections import Counter
 from collections.abc import Callable, Iterable
 from dataclasses import dataclass
 from pathlib import Path
@@ -14,7 +19,7 @@ from pathlib import Path
 from draw_nets import setup_frame
 from draw_terms import behind, chain, choices
 from draw_terms import setup_frame as terms_setup
-from drawing import ADD, JOIN, OPEN, PRINT, RELEASE, SWAP, WITHDRAW
+from drawing import ADD, CALLS, JOIN, LOOK, OPEN, PRINT, RELEASE, SWAP, WITHDRAW, Layers
 from generate import generate_session
 from nets import CONDITIONS, Event, encode_set
 from terms import Act, Both, Call, ChooseRight, Nil, OnLeft, OnRight, Parallel, Prefix, Proof, Term
@@ -24,10 +29,13 @@ SEED = 1
 FRAMES = 200_000
 SESSION_FRAMES = 10_000
 JOINS = 2_000
-# How often a call on a long term is made.
+# How often a call on a long term is made, and one on a sheet of some length.
 PROGRAM_CALLS = 4_000
 MODEL_CALLS = 400
+PROGRAM_LENGTH_CALLS = 5_000
+MODEL_LENGTH_CALLS = 20
 TERM_BYTES = (64, 128, 256)
+LENGTHS = (0, 4, 8, 16, 24, 31)
 
 
 def benchmark_input() -> tuple[bytes, int]:
@@ -115,7 +123,7 @@ def join_seconds(command: list[str], case: JoinCase) -> tuple[bytes, float]:
     return output, (seconds - seconds_without) / JOINS
 
 
-# Calls on long terms
+# A call over and over
 
 
 @dataclass
@@ -125,6 +133,74 @@ class CallFrames:
     before: list[bytes]
     repeated: list[bytes]
     without: list[bytes]
+
+
+def call_seconds(command: list[str], call: CallFrames, times: int) -> tuple[bytes, float]:
+    """The output with the call, and the time that it takes."""
+    output, seconds = timed_run(command, encode_frames(call.before + times * call.repeated))
+    _, seconds_without = timed_run(command, encode_frames(call.before + times * call.without))
+    return output, (seconds - seconds_without) / times
+
+
+# Calls on sheets of different lengths
+
+
+@dataclass
+class LengthCase:
+    """A system, a start, and 32 steps that are possible in it in any order."""
+
+    name: str
+    setup: bytes
+    start: bytes
+    steps: list[bytes]
+
+    def sheet(self, number: int, steps: Iterable[bytes]) -> list[bytes]:
+        return [bytes([OPEN, number]) + self.start] + [bytes([ADD, number]) + step for step in steps]
+
+    def calls(self, length: int) -> dict[str, CallFrames]:
+        """Each call on sheet 0, which has so many steps; those that there are at this length.
+
+        Where the call changes the sheet, it is first made anew each time, by a
+        join of sheet 2 into one without steps.
+        """
+        steps = self.steps[:length]
+        begin = [self.setup, *self.sheet(0, steps), *self.sheet(1, reversed(steps)), *self.sheet(2, steps)]
+        renewal = [*self.sheet(0, ()), bytes([JOIN, 0, 2])]
+        next_step = bytes([ADD, 0]) + self.steps[length]
+        found = {
+            "add": CallFrames(begin, [*renewal, next_step], renewal),
+            "join": CallFrames(begin, [bytes([JOIN, 0, 1])], []),
+            "look": CallFrames(begin, [bytes([LOOK, 0, length // 2])], []),
+            "print": CallFrames([*begin, bytes([RELEASE, 0])], [bytes([PRINT, 0])], []),
+        }
+        if length > 1:
+            found["swap"] = CallFrames(begin, [bytes([SWAP, 0, 1])], [])
+            found["withdraw"] = CallFrames(begin, [*renewal, bytes([WITHDRAW, 0])], renewal)
+        return found
+
+
+def length_cases() -> list[LengthCase]:
+    layers = Layers(bytes(range(1, 17)), bytes(range(0x20, 0x28)))
+    events = [Event(index % 8 + 1, frozenset([c]), frozenset([c + 1])) for index, c in enumerate(SOURCES)]
+    numbers = [bytes([number]) for number in range(len(events))]
+    tree, proofs = tree_of_prefixes(5)
+    return [
+        LengthCase("net", setup_frame(events), START, numbers),
+        LengthCase("net under 8 pairs and 8 masked names", setup_frame(events, layers), START, numbers),
+        LengthCase("terms", terms_setup([]), tree.encoded, proofs),
+        LengthCase("terms under 8 pairs and 8 masked names", terms_setup([], layers), tree.encoded, proofs),
+    ]
+
+
+def tree_of_prefixes(depth: int) -> tuple[Term, list[bytes]]:
+    """Prefixes side by side, two at each node for so many levels, and the step of each."""
+    if depth == 0:
+        return Prefix(0x01, Nil()), [Act(0x01).encoded]
+    below, steps = tree_of_prefixes(depth - 1)
+    return Parallel(below, below), [node + step for node in (b"\x11", b"\x12") for step in steps]
+
+
+# Calls on long terms
 
 
 @dataclass
@@ -217,13 +293,6 @@ def term_cases() -> list[TermCase]:
     return found
 
 
-def call_seconds(command: list[str], call: CallFrames, times: int) -> tuple[bytes, float]:
-    """The output with the call, and the time that it takes."""
-    output, seconds = timed_run(command, encode_frames(call.before + times * call.repeated))
-    _, seconds_without = timed_run(command, encode_frames(call.before + times * call.without))
-    return output, (seconds - seconds_without) / times
-
-
 # Reports; each says whether the outputs are the same
 
 
@@ -231,13 +300,22 @@ def report_session(program: list[str]) -> bool:
     data, frames = benchmark_input()
     output, seconds = timed_run(program, data)
     model_output, model_seconds = timed_run(MODEL, data)
-    print(f"frames:  {frames}")
+    print(f"frames:  {frames}, {shares(data)}")
     print(f"program: {frames / seconds:,.0f} frames per second ({seconds:.2f} s)")
     print(f"model:   {frames / model_seconds:,.0f} frames per second ({model_seconds:.2f} s)")
     print(f"ratio:   {model_seconds / seconds:.1f}")
     if output != model_output:
         print("the outputs differ")
     return output == model_output
+
+
+def shares(data: bytes) -> str:
+    """How many of the frames make each call, in percent."""
+    lines = [line.upper() for line in data.splitlines()]
+    heads = Counter(line[:2] for line in lines)
+    pairs = sum(line.startswith(b"A0") and line[4:6] != b"00" for line in lines)
+    calls = [f"{call:02X} {100 * heads[b'%02X' % call] / len(lines):.1f} %" for call in CALLS]
+    return ", ".join([*calls, f"setups with pairs {100 * pairs / len(lines):.1f} %"])
 
 
 def report_join(program: list[str], case: JoinCase) -> bool:
@@ -268,11 +346,32 @@ def report_term(program: list[str], case: TermCase) -> bool:
     return same
 
 
+def report_lengths(program: list[str], case: LengthCase) -> bool:
+    """A table of the time that each call takes the program, with a column for each length."""
+    same = True
+    rows: dict[str, list[str]] = {}
+    for column, length in enumerate(LENGTHS):
+        for call, frames in case.calls(length).items():
+            output, seconds = call_seconds(program, frames, PROGRAM_LENGTH_CALLS)
+            model_output, _ = timed_run(MODEL, encode_frames(frames.before + MODEL_LENGTH_CALLS * frames.repeated))
+            rows.setdefault(call, [""] * len(LENGTHS))[column] = f"{1e6 * seconds:,.1f}"
+            refused = [line for line in model_output.splitlines() if not line.startswith(b"00")]
+            assert call == "print" or not refused, refused[0]
+            same = same and output.startswith(model_output)
+    print(f"{case.name}, in µs, on a sheet with so many steps:")
+    for name, cells in (("steps", map(str, LENGTHS)), *sorted(rows.items())):
+        print(f"{name:>8}" + "".join(f"{cell:>10}" for cell in cells))
+    if not same:
+        print("the outputs differ")
+    return same
+
+
 def main() -> int:
     parser = argparse.ArgumentParser(description=__doc__)
     parser.add_argument("program", type=Path, metavar="PROGRAM")
     program = [str(parser.parse_args().program.resolve())]
     same = [report_session(program), *(report_join(program, case) for case in JOIN_CASES)]
+    same += [report_lengths(program, case) for case in length_cases()]
     same += [report_term(program, case) for case in term_cases()]
     return 0 if all(same) else 1
 

@@ -126,13 +126,13 @@ def altered_layers(random: Random, layers: Layers, used: Sequence[int]) -> Layer
 
 def any_pairs(random: Random, layers: Layers) -> bytes:
     """The pairs, or others; at least one."""
-    if layers.pairs and random.random() < 0.6:
+    if layers.pairs and random.random() < 0.75:
         return layers.pairs
     return pairs_between(random, (), random.choice((MOST_PAIRS, random.randrange(1, MOST_PAIRS + 1))))
 
 
 def any_masked(random: Random, layers: Layers) -> bytes:
-    if layers.masked and random.random() < 0.6:
+    if layers.masked and random.random() < 0.75:
         return layers.masked
     return bytes(random.choices(NAMES, k=random.choice((MOST_MASKED, random.randrange(1, MOST_MASKED + 1)))))
 
@@ -198,7 +198,8 @@ def wrong_kind(random: Random, frame: bytes) -> bytes:
 
 def cut_off(random: Random, frame: bytes) -> bytes:
     """Bytes are missing; often only the last ones, or most of them."""
-    return frame[: random.choice((random.randrange(1, len(frame)), len(frame) - 1, random.randrange(1, min(12, len(frame)))))]
+    last = len(frame) - 1
+    return frame[: random.choice((random.randint(1, last), last, random.randint(1, min(11, last))))]
 
 
 def extended(random: Random, frame: bytes) -> bytes:

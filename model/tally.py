@@ -10,14 +10,15 @@ from typing import Any
 
 from drawing import ADD, CALLS, JOIN, LOOK, OPEN, PRINT, RELEASE, REOPEN, SETUP, SWAP, WITHDRAW
 from nets import Net
-from replays import beneath, stopped_sheet
+from replays import beneath
 from sheetbench import KIND_NET, MOST_STEPS, SHEETS, Bench, Server, Standing, decode_line
 from systems import Number, Refusal
 from tally_layers import KINDS, LAYER_HAPPENINGS, kind_of, names_under_layers
 from tally_setups import FAULTS, SETUP_HAPPENINGS, names_of_setup
 from tally_terms import TERM_HAPPENINGS, names_over_terms
 
-CALL_NAMES = dict(zip(CALLS, ("setup", "open", "add", "swap", "withdraw", "join", "release", "reopen", "print", "look")))
+NAMES = ("setup", "open", "add", "swap", "withdraw", "join", "release", "reopen", "print", "look")
+CALL_NAMES = dict(zip(CALLS, NAMES))
 # What each call can be refused by.
 REFUSED_BY = {
     SETUP: (1, 2),

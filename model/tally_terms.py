@@ -16,7 +16,7 @@ from sheetbench import (
     Layout,
     carry,
 )
-from systems import MOST_STATE_BYTES, MOST_STEP_BYTES, Layer, Number, Refusal
+from systems import MOST_STATE_BYTES, MOST_STEP_BYTES, Layer, Number
 from tally_setups import layout_of
 from terms import (
     Both,

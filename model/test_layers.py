@@ -215,12 +215,13 @@ RENAMING_CASES: list[Case] = [
     ("a prefix has the term's own action", [terms("0102"), "B000010100"], "B1001002", "06040000"),
 ]
 
-# The session that the documents begin with: a join of two branches of a choice.
+# A join of two sheets that have gone on with one branch of a choice.
+CHOICE = "0301030002010100010200"
 CHOICE_SESSION = [
     "A001000000",
-    "B0000301030002010100010200",
+    "B000" + CHOICE,
     "B10015111001",
-    "B0010301030002010100010200",
+    "B001" + CHOICE,
     "B10115121002",
     "B40001",
     "B500",
@@ -232,9 +233,9 @@ REPLAY_CASES: list[Case] = [
     ("the setup is accepted", CHOICE_SESSION, MASKED_02, "00"),
     ("the refusal of the mask, whole", [*CHOICE_SESSION, MASKED_02], "B301", "1002000107030000"),
     ("behind a step that is not masked", [*CHOICE_SESSION, MASKED_02], "B700", "1002000207030000"),
-    ("a mask that hides nothing of the sheet", [*CHOICE_SESSION, "A00100010300"], "B301", "00" + CHOICE_SESSION[3][4:]),
+    ("a mask that hides nothing of the sheet", [*CHOICE_SESSION, "A00100010300"], "B301", "00" + CHOICE),
     ("a name renamed into a masked one", [*CHOICE_SESSION, terms("0205", "05")], "B301", "1002000107030000"),
-    ("a name renamed away from a masked one", [*CHOICE_SESSION, terms("0205", "02")], "B301", "00" + CHOICE_SESSION[3][4:]),
+    ("a name renamed away from a masked one", [*CHOICE_SESSION, terms("0205", "02")], "B301", "00" + CHOICE),
     ("add", [TO_AND_BACK, *RUN, net("", "01")], "B10000", "1002000107030000"),
     ("add of no step", [TO_AND_BACK, *RUN, net("", "01")], "B100", "1002000107030000"),
     ("swap", [TO_AND_BACK, *RUN, net("", "01")], "B20001", "1002000107030000"),
@@ -269,7 +270,7 @@ REPLAY_CASES: list[Case] = [
     ),
     (
         "a step that is no event precedes a later masked one",
-        [net("", "", [TO, *SILENT_TOO[1:]]), OPEN, "B10002", "B10001", net("", "01")],
+        [net("", "", SILENT_TOO), OPEN, "B10002", "B10001", net("", "01")],
         "B300",
         "1002000105040000",
     ),
@@ -315,7 +316,7 @@ LOOK_CASES: list[Case] = [
     ("its start too", [TO_AND_BACK, OPEN, "A001000000"], "B90000", "1002000004040001"),
     ("a replay precedes the number", [TO_AND_BACK, *RUN, net("", "", [TO])], "B900FF", "1002000205040000"),
     ("another system, other states", [TO_AND_BACK, *RUN, net("0102", "01")], "B90001", "00" + C1),
-    ("terms before a step", [*CHOICE_SESSION], "B90000", "000301030002010100010200"),
+    ("terms before a step", [*CHOICE_SESSION], "B90000", "00" + CHOICE),
     ("terms between steps", [*CHOICE_SESSION], "B90001", "000200010200"),
     ("terms after all steps", [*CHOICE_SESSION], "B90002", "00020000"),
 ]
@@ -353,7 +354,7 @@ NO_STEP, MASKED = "05040000", "07030000"
 
 
 class QuestionsTest(unittest.TestCase):
-    """Refusals of questions in their order: 5, 7, 4, 6, 8, 12."""
+    """Refusals of questions in their order: 5, 7, 4, 6, 8, 12, and 5 of both steps before 7 of either."""
 
     # Events 0 and 1 are masked, 2 and 3 are not; 0 and 1 are independent of each other, and so are 2 and 3.
     moves = [(1, 0, 1), (2, 2, 3), (3, 0, 1), (4, 2, 3)]
