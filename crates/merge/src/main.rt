@@ -13,11 +13,13 @@ use crate::trouble::{Trouble, tell};
 use std::io;
 use std::io::Write;
 
+// The merge over the net.
 fn over_net<W: Write>(output: &mut W) -> Result<(), Trouble> {
     writeln!(output, "over a net")?;
     merge(&plans::net()?, &plans::NET_PLAN, output)
 }
 
+// The merge over the terms.
 fn over_terms<W: Write>(output: &mut W) -> Result<(), Trouble> {
     writeln!(output, "over terms")?;
     merge(&plans::terms()?, &plans::TERMS_PLAN, output)

@@ -1,16 +1,12 @@
 // The two systems, and what is done over each.
-// model/sheetbench.py answers the same calls, as frames, with the states, numbers and texts that stdout has:
-// over the net the setup and A of docs/EXAMPLE.md, then
-// B0000000000000000011 B10000 B10003 B10001 B20001 B0010000000000000011 B10100 B10101 B10102 B40001 B500 B700 B600 B10004 B500 B700;
-// over the terms A00100000105010401 0500, then
-// B000020301030002010100010200 0500 ..
+// Beside each plan stand its calls as frames: to these model/sheetbench.py answers the states, counts and texts that stdout has.
 use crate::plan::Plan;
 use crate::trouble::Trouble;
 use nets::event::Event;
 use nets::net::Net;
 use terms::terms::Terms;
 
-// A filler and a packer: fill, close, offer, ready, hand over.
+// A filler and a packer: the first fills, closes and offers a crate, the second gets ready, and one hands it over to the other.
 const EVENTS: [Event; 5] = [
     Event {
         action: 0x01,
@@ -39,6 +35,7 @@ const EVENTS: [Event; 5] = [
     },
 ];
 
+// The net of these events.
 pub(crate) fn net() -> Result<Net, Trouble> {
     let mut net = Net::new();
     for event in EVENTS {
@@ -48,6 +45,10 @@ pub(crate) fn net() -> Result<Net, Trouble> {
 }
 
 // The first designer gets ready before filling, the second closes and offers; then the crate is handed over.
+// The setup: A002000005 0100000000000000010000000000000002 0200000000000000020000000000000004
+// 0300000000000000040000000000000008 4300000000000000100000000000000020 0000000000000000280000000000000041
+// The first: B0000000000000000011 B10000 B10003 B10001 B20001. The second: B0010000000000000011 B10100 B10101 B10102.
+// Both: B40001 B500 B700 B600 B10004 B500 B700
 pub(crate) const NET_PLAN: Plan<'static> = Plan {
     start: &[0, 0, 0, 0, 0, 0, 0, 0x11],
     first: &[&[0], &[3], &[1]],
@@ -56,7 +57,7 @@ pub(crate) const NET_PLAN: Plan<'static> = Plan {
     last: &[4],
 };
 
-// A definition: two prefixes, one behind the other.
+// Terms over one definition, of two prefixes one behind the other.
 pub(crate) fn terms() -> Result<Terms, Trouble> {
     let mut terms = Terms::new(1);
     terms.add(&[0x01, 0x04, 0x01, 0x05, 0x00])?;
@@ -64,6 +65,10 @@ pub(crate) fn terms() -> Result<Terms, Trouble> {
 }
 
 // A choice beside a call: both designers choose the right branch, each by another of its two prefixes.
+// The setup: A0010000 01 05 0104010500
+// The first: B0000203010300020101000102000500 B1001115111001 B100121004 B20001.
+// The second: B0010203010300020101000102000500 B101121004 B1011115121002.
+// Both: B40001 B500 B700 B600 B100121005 B500 B700
 pub(crate) const TERMS_PLAN: Plan<'static> = Plan {
     start: &[
         0x02, 0x03, 0x01, 0x03, 0x00, 0x02, 0x01, 0x01, 0x00, 0x01, 0x02, 0x00, 0x05, 0x00,
