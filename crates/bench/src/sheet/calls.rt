@@ -13,7 +13,7 @@ use steps::system::StepSystem;
 // Each call here and in the files beside says that a refusal leaves the sheet as it was: no type can hold that.
 impl Sheet {
     // A sheet with no run.
-    pub(crate) fn blank() -> Sheet
+    pub fn blank() -> Sheet
         ensures { page_of result ≡ blank_page }
     {
         let head = Head {
@@ -28,7 +28,7 @@ impl Sheet {
     }
 
     // Opens a blank sheet, or an open one anew, at a start.
-    pub(crate) fn start_at<S: StepSystem>(
+    pub fn start_at<S: StepSystem>(
         &mut self,
         system: &S,
         state: &[u8],
@@ -53,7 +53,7 @@ impl Sheet {
     }
 
     // Adds a step behind the others, and answers the end state.
-    pub(crate) fn add<S: StepSystem>(
+    pub fn add<S: StepSystem>(
         &mut self,
         system: &S,
         step: &[u8],
@@ -81,7 +81,7 @@ impl Sheet {
     }
 
     // Takes the last step away, and answers the end state.
-    pub(crate) fn withdraw<S: StepSystem>(
+    pub fn withdraw<S: StepSystem>(
         &mut self,
         system: &S,
         out: &mut [u8],

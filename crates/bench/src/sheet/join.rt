@@ -79,7 +79,7 @@ impl Sheet {
     }
 
     // Joins the other sheet, if there is one of that number, into this one: the new length, and how many steps are shared.
-    pub(crate) fn join<S: StepSystem>(
+    pub fn join<S: StepSystem>(
         &mut self,
         system: &S,
         other: Option<Sheet>,

@@ -47,7 +47,7 @@ impl Sheet {
     }
 
     // Writes the text of a released sheet over the front of `out`, and answers its length.
-    pub(crate) fn print<S: StepSystem>(
+    pub fn print<S: StepSystem>(
         &self,
         system: &S,
         out: &mut [u8],

@@ -16,7 +16,7 @@ impl Sheet {
     }
 
     // Releases an open sheet.
-    pub(crate) fn release<S: StepSystem>(&mut self, system: &S) -> Result<(), BenchFault>
+    pub fn release<S: StepSystem>(&mut self, system: &S) -> Result<(), BenchFault>
         ensures answer { result ≡ accepted (released (S.transitions system.now) (page_of self.old)) }
         ensures page { page_of self.new ≡ after (released (S.transitions system.now) (page_of self.old)) (page_of self.old) }
         ensures untouched { is_err result ≡ true → self.new ≡ self.old }
@@ -25,7 +25,7 @@ impl Sheet {
     }
 
     // Opens a released sheet again.
-    pub(crate) fn reopen<S: StepSystem>(&mut self, system: &S) -> Result<(), BenchFault>
+    pub fn reopen<S: StepSystem>(&mut self, system: &S) -> Result<(), BenchFault>
         ensures answer { result ≡ accepted (reopened (S.transitions system.now) (page_of self.old)) }
         ensures page { page_of self.new ≡ after (reopened (S.transitions system.now) (page_of self.old)) (page_of self.old) }
         ensures untouched { is_err result ≡ true → self.new ≡ self.old }

@@ -30,7 +30,7 @@ impl Sheet {
     }
 
     // Exchanges the steps `place` and `place` + 1: what the second was before the first comes first, then what is left of the first.
-    pub(crate) fn swap<S: StepSystem>(&mut self, system: &S, place: u8) -> Result<(), BenchFault>
+    pub fn swap<S: StepSystem>(&mut self, system: &S, place: u8) -> Result<(), BenchFault>
         ensures answer { result ≡ accepted (swapped (S.transitions system.now) (S.independence system.now) place (page_of self.old)) }
         ensures page { page_of self.new ≡ after (swapped (S.transitions system.now) (S.independence system.now) place (page_of self.old)) (page_of self.old) }
         ensures untouched { is_err result ≡ true → self.new ≡ self.old }

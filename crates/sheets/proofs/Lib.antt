@@ -1,0 +1,2 @@
+mod TypedSheets
+mod NeverByStanding
