@@ -8,8 +8,8 @@ ghost use Rattle.nodes.specs.Grammars.{fits_of};
 ghost use Rattle.nodes.specs.Nodes.{ProofNode, Fills, proof_view};
 ghost use Rattle.nodes.specs.Shapes.{proof_shape};
 
-use actions::action::{is_action, is_name};
 use crate::scan::{Due, Grammar, Wanted, fault, split};
+use actions::action::{is_action, is_name};
 
 // A node of a proof, with its parts as they stand in the string.
 #[derive(Clone, Copy)]

@@ -8,8 +8,8 @@ ghost use Rattle.nodes.specs.Grammars.{fits_of};
 ghost use Rattle.nodes.specs.Nodes.{TermNode, term_view};
 ghost use Rattle.nodes.specs.Shapes.{term_shape};
 
-use actions::action::{is_action, is_name};
 use crate::scan::{Due, Grammar, Wanted, fault, split};
+use actions::action::{is_action, is_name};
 
 // A node of a term, with its parts as they stand in the string.
 #[derive(Clone, Copy)]
