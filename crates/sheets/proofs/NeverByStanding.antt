@@ -18,6 +18,7 @@ use Rattle.bench.specs.Calls.{Outcome, answered, accepted, then, from_system, wh
 use Rattle.bench.specs.Swap.{exchanged_on, swapped}
 use Rattle.bench.specs.Join.{led, alike, fitting, surviving, unless_blank, pair_told, joined}
 use Rattle.bench.specs.Print.{sheet_text, printed}
+use Rattle.bench.specs.Look.{when_begun, looked}
 use Rattle.sheets.specs.Standing.{NotByStanding}
 
 -- a call that is accepted, or refused for another reason than a standing
@@ -74,10 +75,29 @@ module _ (p : Page) (o : Outcome) (h : Fair o) where
       go Open n = h
       go Released n = h
 
+  if_begun : (p.standing ≡ Blank → ⊥) → Fair (when_begun p o)
+  if_begun n = go p.standing n
+    where
+      go : (s : Standing) → (s ≡ Blank → ⊥) → Fair (elim s as (λ _. Outcome) [ Blank ↦ Err (WrongStanding 1) | Open ↦ o | Released ↦ o ])
+      go Blank n = absurd (n refl)
+      go Open n = h
+      go Released n = h
+
 module _ (t : Transitions) (p : Page) where
   -- from the end of a sheet on
   from_end : {A : Type 0} (k : Str → Result A BenchFault) → ((a : Str) → Fair (k a)) → Fair (then (end_told t p) k)
   from_end k h = after_all (end_told t p) k (steps_replayed t p.start (steps_of p)) h
+
+  -- a look at a sheet that is not blank
+  pub look_fair : (k n : ℕ) → (p.standing ≡ Blank → ⊥) → Fair (looked t k n p)
+  look_fair k n begun =
+      if_begun p _
+      (from_end _ (λ _.
+      either (leb k p.len) _ _
+      (after_all (replayed t p.start (take k p.rows)) _ (steps_replayed t p.start (take k p.rows)) (λ a.
+      after_all (from_system (state_fits a n)) _ (of_system (state_fits a n)) (λ _. tt)))
+      (omega arith)))
+      begun
 
   -- each call on an open sheet
   module _ (is : p.standing ≡ Open) where

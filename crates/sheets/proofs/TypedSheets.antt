@@ -12,12 +12,18 @@ use Rattle.sheets.specs.declared.any_sheet.AnySheet.{AnySheet}
 use Rattle.sheets.specs.declared.any_sheet.AnySheet.TheVariants as any
 use Rattle.sheets.specs.declared.open_sheet.OpenSheet.{OpenSheet}
 use Rattle.sheets.specs.declared.released_sheet.ReleasedSheet.{ReleasedSheet}
-use Rattle.sheets.specs.Pages.{any_page, page_told}
+use Rattle.sheets.specs.Pages.{open_page, released_page, any_page, page_told}
 
 -- a sheet of one of the types is not blank
+pub open_not_blank : (s : OpenSheet) → (open_page s).standing ≡ Blank → ⊥
+open_not_blank s e = let clash : Open ≡ Blank = sym s.open ∙ e in cc
+
+pub released_not_blank : (s : ReleasedSheet) → (released_page s).standing ≡ Blank → ⊥
+released_not_blank s e = let clash : Released ≡ Blank = sym s.released ∙ e in cc
+
 pub never_blank : (s : AnySheet) → (any_page s).standing ≡ Blank → ⊥
-never_blank (any.Open s) e = let clash : Open ≡ Blank = sym s.now.open ∙ e in cc
-never_blank (any.Released s) e = let clash : Released ≡ Blank = sym s.now.released ∙ e in cc
+never_blank (any.Open s) e = open_not_blank s.now e
+never_blank (any.Released s) e = released_not_blank s.now e
 
 -- there is one way at most to have a standing
 one_way : (s : Sheet) (standing : Standing) → IsProp ((page_of s).standing ≡ standing)

@@ -47,7 +47,7 @@ fn end_of<S: StepSystem>(
 
 impl Sheet {
     // Answers the state after the first `steps` steps, and changes nothing.
-    pub(crate) fn look<S: StepSystem>(
+    pub fn look<S: StepSystem>(
         &mut self,
         system: &S,
         steps: u8,

@@ -4,6 +4,7 @@ ghost use Rattle.byte_strings.specs.Buffer.{count, kept};
 ghost use Rattle.bench.specs.Calls.{answered, accepted, after, opened, added, withdrawn};
 ghost use Rattle.bench.specs.Swap.{swapped};
 ghost use Rattle.bench.specs.Join.{pair_told, joined};
+ghost use Rattle.bench.specs.Look.{looked};
 ghost use Rattle.sheets.specs.Pages.{open_page, any_page};
 ghost use Rattle.sheets.specs.Standing.{NotByStanding};
 
@@ -78,5 +79,20 @@ impl OpenSheet {
         ensures standing { IfErr result NotByStanding }
     {
         self.sheet.join(system, Some(other.sheet()))
+    }
+
+    // Answers the state after the first `steps` steps, and changes nothing.
+    pub fn look<S: StepSystem>(
+        &mut self,
+        system: &S,
+        steps: u8,
+        out: &mut [u8],
+    ) -> Result<usize, BenchFault>
+        ensures answer { result ≡ count (answered (looked (S.transitions system.now) steps (length out.old) (open_page self.old))) }
+        ensures buffer { out.new ≡ kept (answered (looked (S.transitions system.now) steps (length out.old) (open_page self.old))) out.old }
+        ensures unchanged { self.new ≡ self.old }
+        ensures standing { IfErr result NotByStanding }
+    {
+        self.sheet.look(system, steps, out)
     }
 }

@@ -3,6 +3,7 @@ ghost use Rattle.std.specs.Prelude.{◌≡◌, ◌≤◌, length, IfOk, IfErr};
 ghost use Rattle.byte_strings.specs.Buffer.{count, kept};
 ghost use Rattle.bench.specs.Calls.{answered, reopened};
 ghost use Rattle.bench.specs.Print.{printed};
+ghost use Rattle.bench.specs.Look.{looked};
 ghost use Rattle.sheets.specs.Pages.{released_page, page_told, reopen_told};
 ghost use Rattle.sheets.specs.Standing.{NotByStanding};
 
@@ -21,6 +22,21 @@ impl ReleasedSheet {
         ensures standing { IfErr result NotByStanding }
     {
         self.sheet.print(system, out)
+    }
+
+    // Answers the state after the first `steps` steps, and changes nothing.
+    pub fn look<S: StepSystem>(
+        &mut self,
+        system: &S,
+        steps: u8,
+        out: &mut [u8],
+    ) -> Result<usize, BenchFault>
+        ensures answer { result ≡ count (answered (looked (S.transitions system.now) steps (length out.old) (released_page self.old))) }
+        ensures buffer { out.new ≡ kept (answered (looked (S.transitions system.now) steps (length out.old) (released_page self.old))) out.old }
+        ensures unchanged { self.new ≡ self.old }
+        ensures standing { IfErr result NotByStanding }
+    {
+        self.sheet.look(system, steps, out)
     }
 
     // Opens the sheet again, as it is, or gives it back.
