@@ -10,6 +10,7 @@ mod print;
 mod release;
 mod replay;
 mod swap;
+mod view;
 
 // A blank sheet has no run; an open one can be changed; a released one can be printed.
 #[derive(Clone, Copy, PartialEq, Eq)]

@@ -19,7 +19,8 @@ pub(crate) fn merge<S: StepSystem, W: Write>(
     let printed = publish(system, merged, output)?;
     let longer = go_on(system, printed, plan.last, output)?;
     let done = publish(system, longer, output)?;
-    done.discard();
+    let gone = done.discard();
+    writeln!(output, "discarded, with {gone} steps")?;
     Ok(())
 }
 

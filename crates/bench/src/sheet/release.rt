@@ -8,13 +8,6 @@ use crate::sheet::{Head, Sheet, Standing};
 use steps::system::StepSystem;
 
 impl Sheet {
-    // Whether the sheet is blank, open or released.
-    pub(crate) fn standing(&self) -> Standing
-        ensures { result ≡ (page_of self.now).standing }
-    {
-        self.head.standing
-    }
-
     // Releases an open sheet.
     pub fn release<S: StepSystem>(&mut self, system: &S) -> Result<(), BenchFault>
         ensures answer { result ≡ accepted (released (S.transitions system.now) (page_of self.old)) }

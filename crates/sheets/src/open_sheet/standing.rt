@@ -40,8 +40,11 @@ impl OpenSheet {
         }
     }
 
-    // Lets the sheet go.
-    pub fn discard(self) {
-        let OpenSheet { sheet: _ } = self;
+    // Lets the sheet go, and answers how many steps go with it.
+    pub fn discard(self) -> usize
+        ensures { result ≡ (open_page self).len }
+    {
+        let OpenSheet { sheet } = self;
+        sheet.len()
     }
 }

@@ -56,8 +56,11 @@ impl ReleasedSheet {
         }
     }
 
-    // Lets the sheet go.
-    pub fn discard(self) {
-        let ReleasedSheet { sheet: _ } = self;
+    // Lets the sheet go, and answers how many steps go with it.
+    pub fn discard(self) -> usize
+        ensures { result ≡ (released_page self).len }
+    {
+        let ReleasedSheet { sheet } = self;
+        sheet.len()
     }
 }
