@@ -11,7 +11,7 @@ use actions::pairs::Pairs;
 
 mod reading;
 
-// A setup within the rules: pairs of names, masked names, and the system, which stands behind them in the frame.
+// The parts of a setup: pairs of names, names, and the system, which stands behind them in the frame.
 #[derive(Clone, Copy)]
 pub struct Setup<'a> {
     pub pairs: Pairs,
