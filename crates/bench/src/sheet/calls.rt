@@ -28,11 +28,7 @@ impl Sheet {
     }
 
     // Opens a blank sheet, or an open one anew, at a start.
-    pub fn start_at<S: StepSystem>(
-        &mut self,
-        system: &S,
-        state: &[u8],
-    ) -> Result<(), BenchFault>
+    pub fn start_at<S: StepSystem>(&mut self, system: &S, state: &[u8]) -> Result<(), BenchFault>
         ensures answer { result ≡ accepted (opened (S.transitions system.now) state.now (page_of self.old)) }
         ensures page { page_of self.new ≡ after (opened (S.transitions system.now) state.now (page_of self.old)) (page_of self.old) }
         ensures untouched { is_err result ≡ true → self.new ≡ self.old }

@@ -47,11 +47,7 @@ impl Sheet {
     }
 
     // Writes the text of a released sheet over the front of `out`, and answers its length.
-    pub fn print<S: StepSystem>(
-        &self,
-        system: &S,
-        out: &mut [u8],
-    ) -> Result<usize, BenchFault>
+    pub fn print<S: StepSystem>(&self, system: &S, out: &mut [u8]) -> Result<usize, BenchFault>
         ensures answer { result ≡ count (answered (printed (S.transitions system.now) (length out.old) (page_of self.now))) }
         ensures buffer { out.new ≡ kept (answered (printed (S.transitions system.now) (length out.old) (page_of self.now))) out.old }
         ensures bound { IfOk result (λ n. n ≤ 5222) }
