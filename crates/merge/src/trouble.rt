@@ -66,7 +66,13 @@ pub(crate) fn tell<W: Write>(done: Result<(), Trouble>, output: &mut W) -> io::R
         Err(Trouble::Refused(fault)) => {
             let refusal: [u8; 4] = Refusal::from(fault).into();
             let told = Hex(&refusal);
-            writeln!(output, "refused: {told}")
+            write!(output, "refused: {told}")?;
+            if let Some(cause) = fault.cause() {
+                let beneath: [u8; 4] = cause.into();
+                let why = Hex(&beneath);
+                write!(output, "{why}")?;
+            }
+            writeln!(output)
         }
         Err(Trouble::Output(fault)) => Err(fault),
     }

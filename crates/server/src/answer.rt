@@ -11,6 +11,8 @@ use crate::fault::Fault;
 use crate::server::Server;
 use crate::text::TEXT_LIMIT;
 use crate::{setup, text};
+use actions::names::Names;
+use actions::pairs::Pairs;
 use bench::bench::Bench;
 use frame::fault::FrameFault;
 use frame::frame::{FRAME_LIMIT, Frame};
@@ -22,8 +24,9 @@ impl Server {
     pub fn new() -> Server
         ensures { model_of result ≡ record { system = record { design = of_terms []; pairs = []; names = [] }; pages = replicate 4 blank_page } }
     {
+        let terms = TermsOrNet::Terms(Terms::new(0));
         Server {
-            system: setup::bare(TermsOrNet::Terms(Terms::new(0))),
+            system: setup::layered(terms, Pairs::none(), Names::none()),
             bench: Bench::new(),
         }
     }

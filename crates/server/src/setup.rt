@@ -20,18 +20,12 @@ mod definitions;
 mod design;
 mod net;
 
-// Terms or a net with nothing renamed and nothing masked.
-pub(crate) fn bare(system: TermsOrNet) -> Mask<Renaming<TermsOrNet>>
-    ensures { layered_of result ≡ record { design = design_of system; pairs = []; names = [] } }
+// Terms or a net, behind a renaming, behind a mask.
+pub(crate) fn layered(system: TermsOrNet, pairs: Pairs, names: Names) -> Mask<Renaming<TermsOrNet>>
+    ensures { layered_of result ≡ record { design = design_of system; pairs = pairs_of pairs; names = names_of names } }
 {
-    let system = Renaming {
-        system,
-        pairs: Pairs::none(),
-    };
-    Mask {
-        system,
-        names: Names::none(),
-    }
+    let system = Renaming { system, pairs };
+    Mask { system, names }
 }
 
 // Makes the terms or the net with its renaming and its mask, or refuses the first body or event that breaks a rule.
@@ -39,12 +33,6 @@ pub(crate) fn build(setup: &Setup<'_>) -> Result<Mask<Renaming<TermsOrNet>>, Fra
     requires { WithinRules (setup_view setup.now) }
     ensures { layered_view result ≡ layered_told (pairs_of setup.now.pairs) (names_of setup.now.names) (system_view setup.now.system) }
 {
-    let system = Renaming {
-        system: design::build(&setup.system)?,
-        pairs: setup.pairs,
-    };
-    Ok(Mask {
-        system,
-        names: setup.names,
-    })
+    let system = design::build(&setup.system)?;
+    Ok(layered(system, setup.pairs, setup.names))
 }

@@ -1,4 +1,4 @@
-use Rattle.std.proofs.Common.{rules, true, false, is_err, ℕ, ◌≡◌, ◌+◌, ◌-◌, ◌*◌, ◌<◌, Err, ap, ◌∙◌, arith, drop, inl, inr}
+use Rattle.std.proofs.Common.{rules, true, false, is_err, ◌≡◌, ◌+◌, ◌-◌, ◌*◌, ◌<◌, Err, ap, ◌∙◌, arith, drop, inl, inr}
 use Rattle.std.proofs.lemmas.List.{drop-drop}
 use Rattle.std.specs.Iterator.Adapters.{zip_first, zip_second}
 use Rattle.frame.specs.declared.fault.FrameFault.TheVariants.{BadSetup}
