@@ -8,7 +8,7 @@ use Rattle.actions.specs.declared.pairs.Pair.{Pair}
 use Rattle.actions.specs.Action.{is_name, name_of, complementary}
 use Rattle.actions.specs.declared.pairs.PairFault.{PairFault}
 use Rattle.actions.specs.declared.pairs.PairFault.TheVariants.{Full, FromNoName, FromTwice, ToNoName}
-use Rattle.actions.specs.Pairs.{to_of, sound_pairs, beside_fault, pair_fault, pair_told, renamed, RenamesNames}
+use Rattle.actions.specs.Pairs.{to_of, sound_pairs, beside_fault, pair_fault, pair_answer, replacement, RenamesNames}
 use Rattle.actions.proofs.Listed.{contains_one, at_least, at_most, name_of_name, name_of_co_name}
 
 -- what holds of the first of sound pairs, and of the others
@@ -111,7 +111,7 @@ named_is_name ps n sound name =
       | Some m ↦ λ e. to_name ps n m sound e
     ] refl
 
-renamed_name : (ps : List Pair) (n : ℕ) → is_name n ≡ true → renamed ps n ≡ named ps n
+renamed_name : (ps : List Pair) (n : ℕ) → is_name n ≡ true → replacement ps n ≡ named ps n
 renamed_name ps n name =
     ap (λ k. elim (to_of ps k) [ None ↦ n | Some m ↦ cond (nat_le n 63) m (m + 64) ]) (name_of_name n name)
     ∙ elim (to_of ps n) as (λ o. elim o [ None ↦ n | Some m ↦ cond (nat_le n 63) m (m + 64) ] ≡ elim o [ None ↦ n | Some m ↦ m ]) [
@@ -119,7 +119,7 @@ renamed_name ps n name =
       | Some m ↦ cond-true (nat_le n 63) m (m + 64) (le-leb n 63 (at_most n name))
     ]
 
-renamed_co_name : (ps : List Pair) (n : ℕ) → renamed ps (n + 64) ≡ named ps n + 64
+renamed_co_name : (ps : List Pair) (n : ℕ) → replacement ps (n + 64) ≡ named ps n + 64
 renamed_co_name ps n =
     ap (λ k. elim (to_of ps k) [ None ↦ n + 64 | Some m ↦ cond (nat_le (n + 64) 63) m (m + 64) ]) (name_of_co_name n)
     ∙ elim (to_of ps n) as (λ o. elim o [ None ↦ n + 64 | Some m ↦ cond (nat_le (n + 64) 63) m (m + 64) ] ≡ elim o [ None ↦ n | Some m ↦ m ] + 64) [
@@ -134,13 +134,13 @@ pair_up n name = ap (λ b. b || (is_name (n + 64) && nat_eq n (n + 64 + 64))) (a
 pair_down : (n : ℕ) → is_name n ≡ true → complementary (n + 64) n ≡ true
 pair_down n name = ap (λ b. (is_name (n + 64) && nat_eq n (n + 64 + 64)) || b) (and_from (is_name n) (nat_eq (n + 64) (n + 64)) name (eq-eqb (n + 64) (n + 64) refl)) ∙ or-true (is_name (n + 64) && nat_eq n (n + 64 + 64))
 
-up : (ps : List Pair) (n b : ℕ) → sound_pairs ps ≡ true → is_name n ≡ true → b ≡ n + 64 → complementary (renamed ps n) (renamed ps b) ≡ true
+up : (ps : List Pair) (n b : ℕ) → sound_pairs ps ≡ true → is_name n ≡ true → b ≡ n + 64 → complementary (replacement ps n) (replacement ps b) ≡ true
 up ps n b sound name e = rw (renamed_name ps n name, e, renamed_co_name ps n) (pair_up (named ps n) (named_is_name ps n sound name))
 
-down : (ps : List Pair) (n a : ℕ) → sound_pairs ps ≡ true → is_name n ≡ true → a ≡ n + 64 → complementary (renamed ps a) (renamed ps n) ≡ true
+down : (ps : List Pair) (n a : ℕ) → sound_pairs ps ≡ true → is_name n ≡ true → a ≡ n + 64 → complementary (replacement ps a) (replacement ps n) ≡ true
 down ps n a sound name e = rw (renamed_name ps n name, e, renamed_co_name ps n) (pair_down (named ps n) (named_is_name ps n sound name))
 
-complements : (ps : List Pair) (a b : ℕ) → sound_pairs ps ≡ true → complementary a b ≡ true → complementary (renamed ps a) (renamed ps b) ≡ true
+complements : (ps : List Pair) (a b : ℕ) → sound_pairs ps ≡ true → complementary a b ≡ true → complementary (replacement ps a) (replacement ps b) ≡ true
 complements ps a b sound h =
     elim (or_cases (is_name a && nat_eq b (a + 64)) (is_name b && nat_eq a (b + 64)) h) [
       | inl l ↦ let parts = and_parts (is_name a) (nat_eq b (a + 64)) l in up ps a b sound parts.0 (eqb-true b (a + 64) parts.1)
@@ -181,7 +181,7 @@ renames_names ps sound =
     }
 
 -- a pair that is taken has no fault
-pub faultless : (o : Option PairFault) → Ok tt ≡ pair_told o → o ≡ None
+pub faultless : (o : Option PairFault) → Ok tt ≡ pair_answer o → o ≡ None
 faultless None e = refl
 faultless (Some f) e = cc
 

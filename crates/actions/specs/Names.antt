@@ -18,9 +18,9 @@ abbrev pub name_fault : List ℕ → ℕ → Option NameFault
 name_fault ns n = cond (nat_lt (length ns) name_limit) (cond (is_name n) None (Some NoName)) (Some Full)
 
 -- what adding a name answers, and the names afterwards
-abbrev pub name_told : Option NameFault → Result (Unit {0}) NameFault
-name_told None = Ok tt
-name_told (Some f) = Err f
+abbrev pub name_answer : Option NameFault → Result (Unit {0}) NameFault
+name_answer None = Ok tt
+name_answer (Some f) = Err f
 
 abbrev pub names_after : Option NameFault → List ℕ → ℕ → List ℕ
 names_after None ns n = ns ++ n ∷ []

@@ -30,21 +30,21 @@ abbrev pub pair_fault : List Pair → Pair → Option PairFault
 pair_fault ps p = cond (nat_lt (length ps) pair_limit) (beside_fault ps p) (Some Full)
 
 -- what adding a pair answers, and the pairs afterwards
-abbrev pub pair_told : Option PairFault → Result (Unit {0}) PairFault
-pair_told None = Ok tt
-pair_told (Some f) = Err f
+abbrev pub pair_answer : Option PairFault → Result (Unit {0}) PairFault
+pair_answer None = Ok tt
+pair_answer (Some f) = Err f
 
 abbrev pub pairs_after : Option PairFault → List Pair → Pair → List Pair
 pairs_after None ps p = ps ++ p ∷ []
 pairs_after (Some f) ps p = ps
 
 -- an action with its name replaced
-abbrev pub renamed : List Pair → ℕ → ℕ
-renamed ps a = elim (to_of ps (name_of a)) [ None ↦ a | Some n ↦ cond (nat_le a 63) n (n + 64) ]
+abbrev pub replacement : List Pair → ℕ → ℕ
+replacement ps a = elim (to_of ps (name_of a)) [ None ↦ a | Some n ↦ cond (nat_le a 63) n (n + 64) ]
 
 -- Pairs replace the names that they list, in names and in co-names, and nothing else; the silent action stays silent.
 pub record RenamesNames (ps : List Pair) : Type 0 where
-  pub listed : (p : Pair) → Contains ps p → (renamed ps p.from ≡ p.to) × (renamed ps (p.from + 64) ≡ p.to + 64)
-  pub others : (a : ℕ) → ((p : Pair) → Contains ps p → p.from ≢ name_of a) → renamed ps a ≡ a
-  pub silent : renamed ps 0 ≡ 0
-  pub complements : (a b : ℕ) → complementary a b ≡ true → complementary (renamed ps a) (renamed ps b) ≡ true
+  pub listed : (p : Pair) → Contains ps p → (replacement ps p.from ≡ p.to) × (replacement ps (p.from + 64) ≡ p.to + 64)
+  pub others : (a : ℕ) → ((p : Pair) → Contains ps p → p.from ≢ name_of a) → replacement ps a ≡ a
+  pub silent : replacement ps 0 ≡ 0
+  pub complements : (a b : ℕ) → complementary a b ≡ true → complementary (replacement ps a) (replacement ps b) ≡ true

@@ -3,7 +3,7 @@ use Rattle.std.proofs.Common.{◌≡◌, ℕ, ◌+◌, ◌<◌, ◌≤◌, List,
 use Rattle.std.proofs.lemmas.List.{at_drop_more, at_drop_all, get_or_default}
 use Rattle.steps.specs.Meaning.{Str, Transitions}
 use Rattle.steps.specs.declared.fault.MaskFault.{MaskFault}
-use Rattle.steps.specs.Told.{state_told, next_told}
+use Rattle.steps.specs.Answers.{state_answer, next_answer}
 use Rattle.bench.specs.declared.fault.BenchFault.{BenchFault}
 use Rattle.bench.specs.declared.fault.BenchFault.TheVariants.{Stopped}
 use Rattle.bench.specs.declared.state.Halt.{Halt}
@@ -17,17 +17,17 @@ then_walked t r xs k = elim r [ Ok b ↦ walked t b xs (k + 1) | Err f ↦ Err (
 
 module _ (t : Transitions) (a : Str) (xs : List Str) (i : ℕ) (r : Result Str Halt) (inv : walked t a (drop i xs) (i + 1) ≡ r) where
   module _ (lt : i < length xs) (x : Str) (at : x ≡ get_or xs i x) where
-    more : (m : Result Str MaskFault) → m ≡ next_told t a x 256 → then_walked t m (drop (i + 1) xs) (i + 1) ≡ r
+    more : (m : Result Str MaskFault) → m ≡ next_answer t a x 256 → then_walked t m (drop (i + 1) xs) (i + 1) ≡ r
     unfolding then_walked
     more m e =
-        ap (λ n. then_walked t n (drop (i + 1) xs) (i + 1)) (e ∙ ap (λ y. next_told t a y 256) (at ∙ get_or_default xs i x [] lt))
+        ap (λ n. then_walked t n (drop (i + 1) xs) (i + 1)) (e ∙ ap (λ y. next_answer t a y 256) (at ∙ get_or_default xs i x [] lt))
         ∙ sym (at_drop_more (λ ys. walked t a ys (i + 1)) xs i [] lt) ∙ inv
 
-    pub leads_on : (b : Str) → Ok b ≡ next_told t a x 256 → walked t b (drop (i + 1) xs) (i + 1 + 1) ≡ r
+    pub leads_on : (b : Str) → Ok b ≡ next_answer t a x 256 → walked t b (drop (i + 1) xs) (i + 1 + 1) ≡ r
     unfolding then_walked
     leads_on b e = more (Ok b) e
 
-    pub halts : (f : MaskFault) → Err f ≡ next_told t a x 256 → Err (record { number = i + 1; fault = f }) ≡ r
+    pub halts : (f : MaskFault) → Err f ≡ next_answer t a x 256 → Err (record { number = i + 1; fault = f }) ≡ r
     unfolding then_walked
     halts f e = more (Err f) e
 
@@ -42,7 +42,7 @@ stopped (Err h) = Err (Stopped h.number h.fault)
 walk_followed : (t : Transitions) (a : Str) (xs : List Str) (k : ℕ) → stopped (walked t a xs k) ≡ followed t a xs k
 unfolding stopped
 walk_followed t a [] k = refl
-walk_followed t a (x ∷ xs) k = go (next_told t a x 256) (λ b. walk_followed t b xs (k + 1))
+walk_followed t a (x ∷ xs) k = go (next_answer t a x 256) (λ b. walk_followed t b xs (k + 1))
   where
     go : (m : Result Str MaskFault) → ((b : Str) → stopped (walked t b xs (k + 1)) ≡ followed t b xs (k + 1)) → stopped (elim m as (λ _. Result Str Halt) [ Ok b ↦ walked t b xs (k + 1) | Err f ↦ Err (record { number = k; fault = f }) ]) ≡ elim m as (λ _. Result Str BenchFault) [ Ok b ↦ followed t b xs (k + 1) | Err f ↦ Err (Stopped k f) ]
     go (Ok b) ih = ih b
@@ -53,10 +53,10 @@ abbrev pub then_followed : Transitions → Result Str MaskFault → List Str →
 then_followed t r xs k = elim r [ Ok b ↦ followed t b xs (k + 1) | Err f ↦ Err (Stopped k f) ]
 
 -- from a start that is a state
-pub starts : (t : Transitions) (a : Str) (xs : List Str) (r : Result Str BenchFault) → state_told t a ≡ Ok tt → r ≡ followed t a xs 1 → r ≡ replayed t a xs
+pub starts : (t : Transitions) (a : Str) (xs : List Str) (r : Result Str BenchFault) → state_answer t a ≡ Ok tt → r ≡ followed t a xs 1 → r ≡ replayed t a xs
 starts t a xs r ok e = e ∙ sym (ap (λ o. elim o as (λ _. Result Str BenchFault) [ Ok _ ↦ followed t a xs 1 | Err f ↦ Err (Stopped 0 f) ]) ok)
 
-module _ (t : Transitions) (a : Str) (xs : List Str) (ok : state_told t a ≡ Ok tt) where
+module _ (t : Transitions) (a : Str) (xs : List Str) (ok : state_answer t a ≡ Ok tt) where
   pub arrives : (b : Str) → Ok b ≡ walked t a xs 1 → Ok b ≡ replayed t a xs
   unfolding stopped
   arrives b e = starts t a xs (Ok b) ok (ap stopped e ∙ walk_followed t a xs 1)
@@ -72,7 +72,7 @@ unnumbered (Err h) = Err h.fault
 walk_on_the_way : (t : Transitions) (a : Str) (xs : List Str) (k : ℕ) → unnumbered (walked t a xs k) ≡ join_of.led t a xs
 unfolding unnumbered
 walk_on_the_way t a [] k = refl
-walk_on_the_way t a (x ∷ xs) k = go (next_told t a x 256) (λ b. walk_on_the_way t b xs (k + 1))
+walk_on_the_way t a (x ∷ xs) k = go (next_answer t a x 256) (λ b. walk_on_the_way t b xs (k + 1))
   where
     go : (m : Result Str MaskFault) → ((b : Str) → unnumbered (walked t b xs (k + 1)) ≡ join_of.led t b xs) → unnumbered (elim m as (λ _. Result Str Halt) [ Ok b ↦ walked t b xs (k + 1) | Err f ↦ Err (record { number = k; fault = f }) ]) ≡ elim m as (λ _. Result Str MaskFault) [ Ok b ↦ join_of.led t b xs | Err f ↦ Err f ]
     go (Ok b) ih = ih b

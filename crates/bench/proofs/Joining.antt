@@ -12,18 +12,18 @@ use Rattle.bench.specs.declared.fault.BenchFault.TheVariants.{NoSheet, WrongStan
 use Rattle.bench.specs.declared.sheet.Standing.{Standing}
 use Rattle.bench.specs.declared.sheet.Standing.TheVariants.{Blank, Open, Released}
 use Rattle.bench.specs.Page.{Page, steps_of}
-use Rattle.bench.specs.Replay.{end_told}
+use Rattle.bench.specs.Replay.{end_answer}
 use Rattle.bench.specs.Calls.{Outcome, then, from_system}
 use Rattle.bench.specs.Join.{led, alike, fitting, surviving, merged, unless_blank, joined}
 use Rattle.bench.proofs.Calling.{then_err, then_ok, is_open}
 
 -- the starts, and the rooms
-pub starts_alike : (t : Transitions) (p e : Page) (a b : Str) (r : Bool) → Ok a ≡ end_told t p → Ok b ≡ end_told t e → r ≡ bytes_eq p.start e.start → alike t p e ≡ cond r (Ok a) (Err StartsDiffer)
-starts_alike t p e a b r first second same = then_ok (end_told t p) _ a first ∙ then_ok (end_told t e) _ b second ∙ ap (λ s. cond s (Ok a) (Err StartsDiffer)) (sym same)
+pub starts_alike : (t : Transitions) (p e : Page) (a b : Str) (r : Bool) → Ok a ≡ end_answer t p → Ok b ≡ end_answer t e → r ≡ bytes_eq p.start e.start → alike t p e ≡ cond r (Ok a) (Err StartsDiffer)
+starts_alike t p e a b r first second same = then_ok (end_answer t p) _ a first ∙ then_ok (end_answer t e) _ b second ∙ ap (λ s. cond s (Ok a) (Err StartsDiffer)) (sym same)
 
 -- sheets that start alike replay
-pub alike_ok : (t : Transitions) (p e : Page) (a : Str) → alike t p e ≡ Ok a → (is_ok (end_told t p) ≡ true) × (is_ok (end_told t e) ≡ true)
-alike_ok t p e a h = go (end_told t p) (end_told t e) h
+pub alike_ok : (t : Transitions) (p e : Page) (a : Str) → alike t p e ≡ Ok a → (is_ok (end_answer t p) ≡ true) × (is_ok (end_answer t e) ≡ true)
+alike_ok t p e a h = go (end_answer t p) (end_answer t e) h
   where
     go : (r s : Result Str BenchFault) → then r (λ a. then s (λ _. cond (bytes_eq p.start e.start) (Ok a) (Err StartsDiffer))) ≡ Ok a → (is_ok r ≡ true) × (is_ok s ≡ true)
     go (Ok b) (Ok c) h = (refl, refl)

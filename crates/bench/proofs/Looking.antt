@@ -3,7 +3,7 @@ use Rattle.std.proofs.Common.{◌≡◌, ℕ, ◌<◌, ◌≤◌, leb, take, Ok,
 use Rattle.std.proofs.lemmas.Bool.{cond-true, cond-false, le-leb, lt-leb}
 use Rattle.steps.specs.Meaning.{Str, Transitions}
 use Rattle.steps.specs.declared.fault.MaskFault.{MaskFault}
-use Rattle.steps.specs.Told.{state_fits}
+use Rattle.steps.specs.Answers.{fitting_state}
 use Rattle.bench.specs.declared.fault.BenchFault.{BenchFault}
 use Rattle.bench.specs.declared.fault.BenchFault.TheVariants.{WrongStanding, System, NoSuchStep}
 use Rattle.bench.specs.declared.sheet.Standing.{Standing}
@@ -11,7 +11,7 @@ use Rattle.bench.specs.declared.sheet.Standing.TheVariants.{Blank, Open, Release
 use Rattle.bench.specs.declared.sheet.Head.{Head}
 use Rattle.bench.specs.declared.sheet.Sheet.{Sheet}
 use Rattle.bench.specs.Page.{Page}
-use Rattle.bench.specs.Replay.{replayed, end_told}
+use Rattle.bench.specs.Replay.{replayed, end_answer}
 use Rattle.bench.specs.Calls.{Outcome, then, from_system}
 use Rattle.bench.specs.Look.{when_begun, looked}
 use Rattle.bench.proofs.Calling.{then_err, then_ok}
@@ -33,25 +33,25 @@ module _ (t : Transitions) (k n : ℕ) (p : Page) where
   looked_blank e = not_begun p _ e
 
   module _ (begun : p.standing ≡ Blank → ⊥) where
-    pub looked_stopped : (f : BenchFault) → Err f ≡ end_told t p → looked t k n p ≡ Err f
+    pub looked_stopped : (f : BenchFault) → Err f ≡ end_answer t p → looked t k n p ≡ Err f
     looked_stopped f e = is_begun p _ begun ∙ then_err _ _ f e
 
-    module _ (z : Str) (end : Ok z ≡ end_told t p) where
+    module _ (z : Str) (end : Ok z ≡ end_answer t p) where
       pub looked_past : p.len < k → looked t k n p ≡ Err (NoSuchStep k)
       looked_past past = is_begun p _ begun ∙ then_ok _ _ z end ∙ cond-false (leb k p.len) _ _ (lt-leb _ _ past)
 
       module _ (there : k ≤ p.len) where
-        inside : looked t k n p ≡ then (replayed t p.start (take k p.rows)) (λ a. then (from_system (state_fits a n)) (λ b. Ok (record { answer = b; page = p })))
+        inside : looked t k n p ≡ then (replayed t p.start (take k p.rows)) (λ a. then (from_system (fitting_state a n)) (λ b. Ok (record { answer = b; page = p })))
         inside = is_begun p _ begun ∙ then_ok _ _ z end ∙ cond-true (leb k p.len) _ _ (le-leb _ _ there)
 
         pub looked_lost : (f : BenchFault) → Err f ≡ replayed t p.start (take k p.rows) → looked t k n p ≡ Err f
         looked_lost f e = inside ∙ then_err _ _ f e
 
         module _ (a : Str) (first : Ok a ≡ replayed t p.start (take k p.rows)) where
-          pub looked_refused : (f : MaskFault) → state_fits a n ≡ Err f → looked t k n p ≡ Err (System f)
+          pub looked_refused : (f : MaskFault) → fitting_state a n ≡ Err f → looked t k n p ≡ Err (System f)
           looked_refused f r = inside ∙ then_ok _ _ a first ∙ then_err _ _ (System f) (sym (ap from_system r))
 
-          pub looked_back : (b : Str) → state_fits a n ≡ Ok b → looked t k n p ≡ Ok (record { answer = b; page = p })
+          pub looked_back : (b : Str) → fitting_state a n ≡ Ok b → looked t k n p ≡ Ok (record { answer = b; page = p })
           looked_back b r = inside ∙ then_ok _ _ a first ∙ then_ok _ _ b (sym (ap from_system r))
 
 -- a head is its standing and its length, however its bound is shown

@@ -3,8 +3,8 @@ use Rattle.std.proofs.Common.{◌≡◌, ℕ, ◌-◌, ◌<◌, ◌≤◌, ◌&&
 use Rattle.std.proofs.lemmas.Bool.{cond-true, cond-false, lt-ltb, le-ltb, and_from, and_left, and_right}
 use Rattle.steps.specs.Meaning.{Str, Transitions, Independence}
 use Rattle.steps.specs.declared.fault.MaskFault.{MaskFault}
-use Rattle.steps.specs.Told.{next_told}
-use Rattle.joins.specs.Exchange.{Pair, exchanged_told}
+use Rattle.steps.specs.Answers.{next_answer}
+use Rattle.joins.specs.Exchange.{Pair, exchange_answer}
 use Rattle.bench.specs.declared.fault.BenchFault.{BenchFault}
 use Rattle.bench.specs.declared.fault.BenchFault.TheVariants.{System, NoSuchStep, Dependent}
 use Rattle.bench.specs.declared.sheet.Standing.TheVariants.{Open}
@@ -21,26 +21,26 @@ module _ (t : Transitions) (i : Independence) (p : Page) (n : ℕ) (z : Str) (en
 
   module _ (above : 0 < n) (below : n < p.len) where
     told : Result (Option Pair) MaskFault
-    told = exchanged_told i (get_or p.rows (n - 1) []) (get_or p.rows n [])
+    told = exchange_answer i (get_or p.rows (n - 1) []) (get_or p.rows n [])
 
-    inside : (r : Result (Option Pair) MaskFault) → r ≡ exchanged_told i (get_or p.rows (n - 1) []) (get_or p.rows n []) → swapped t i n p ≡ exchanged_on t n p r
+    inside : (r : Result (Option Pair) MaskFault) → r ≡ exchange_answer i (get_or p.rows (n - 1) []) (get_or p.rows n []) → swapped t i n p ≡ exchanged_on t n p r
     inside r e =
         goes_on t Open p _ z end
         ∙ cond-true (ltb 0 n && ltb n p.len) _ _ (and_from (ltb 0 n) (ltb n p.len) (lt-ltb 0 n above) (lt-ltb n p.len below))
         ∙ ap (exchanged_on t n p) (sym e)
 
-    pub swapped_refused : (f : MaskFault) → Err f ≡ exchanged_told i (get_or p.rows (n - 1) []) (get_or p.rows n []) → swapped t i n p ≡ Err (System f)
+    pub swapped_refused : (f : MaskFault) → Err f ≡ exchange_answer i (get_or p.rows (n - 1) []) (get_or p.rows n []) → swapped t i n p ≡ Err (System f)
     swapped_refused f e = inside (Err f) e
 
-    pub swapped_dependent : Ok None ≡ exchanged_told i (get_or p.rows (n - 1) []) (get_or p.rows n []) → swapped t i n p ≡ Err (Dependent n)
+    pub swapped_dependent : Ok None ≡ exchange_answer i (get_or p.rows (n - 1) []) (get_or p.rows n []) → swapped t i n p ≡ Err (Dependent n)
     swapped_dependent e = inside (Ok None) e
 
-    module _ (x : Pair) (e : Ok (Some x) ≡ exchanged_told i (get_or p.rows (n - 1) []) (get_or p.rows n [])) where
+    module _ (x : Pair) (e : Ok (Some x) ≡ exchange_answer i (get_or p.rows (n - 1) []) (get_or p.rows n [])) where
       pub swapped_stopped : (f : BenchFault) → Err f ≡ replayed t p.start (take (n - 1) p.rows) → swapped t i n p ≡ Err f
       swapped_stopped f r = inside (Ok (Some x)) e ∙ then_err _ _ f r
 
-      pub swapped_too_long : (a : Str) (f : MaskFault) → Ok a ≡ replayed t p.start (take (n - 1) p.rows) → Err f ≡ next_told t a x.first 256 → swapped t i n p ≡ Err (System f)
+      pub swapped_too_long : (a : Str) (f : MaskFault) → Ok a ≡ replayed t p.start (take (n - 1) p.rows) → Err f ≡ next_answer t a x.first 256 → swapped t i n p ≡ Err (System f)
       swapped_too_long a f r m = inside (Ok (Some x)) e ∙ then_ok _ _ a r ∙ then_err _ _ (System f) (ap from_system m)
 
-      pub swapped_done : (a b : Str) → Ok a ≡ replayed t p.start (take (n - 1) p.rows) → Ok b ≡ next_told t a x.first 256 → swapped t i n p ≡ Ok (record { answer = []; page = with_neighbours n x p })
+      pub swapped_done : (a b : Str) → Ok a ≡ replayed t p.start (take (n - 1) p.rows) → Ok b ≡ next_answer t a x.first 256 → swapped t i n p ≡ Ok (record { answer = []; page = with_neighbours n x p })
       swapped_done a b r m = inside (Ok (Some x)) e ∙ then_ok _ _ a r ∙ then_ok _ _ b (ap from_system m)

@@ -7,10 +7,10 @@ use Rattle.bench.specs.declared.fault.BenchFault.TheVariants.{NoSheet}
 use Rattle.bench.specs.declared.sheet.Sheet.{Sheet}
 use Rattle.bench.specs.Page.{Page, page_of, blank_page}
 use Rattle.bench.specs.Calls.{Outcome, after}
-use Rattle.bench.specs.Table.{on_sheet, pages_after, index_told}
+use Rattle.bench.specs.Table.{on_sheet, pages_after, index_answer}
 
 -- the index of a sheet is its number, and below four
-index_is : (n s : ℕ) → Ok s ≡ index_told n → (s ≡ n) × (n < 4)
+index_is : (n s : ℕ) → Ok s ≡ index_answer n → (s ≡ n) × (n < 4)
 index_is n s told = go (ltb n 4) refl told
   where
     go : (b : Bool) → ltb n 4 ≡ b → Ok s ≡ cond b (Ok n) (Err (NoSheet 1)) → (s ≡ n) × (n < 4)
@@ -18,7 +18,7 @@ index_is n s told = go (ltb n 4) refl told
     go false e h = ok_not_err s (NoSheet 1) h
 
 -- a call on the sheet of number n, which is at s
-module _ (sheets : List Sheet) (n s : ℕ) (told : Ok s ≡ index_told n) (d : Sheet) (long : length sheets ≡ 4) where
+module _ (sheets : List Sheet) (n s : ℕ) (told : Ok s ≡ index_answer n) (d : Sheet) (long : length sheets ≡ 4) where
   same : s ≡ n
   same = (index_is n s told).0
 

@@ -3,7 +3,7 @@ use Rattle.std.specs.Prelude.{ℕ, ◌+◌, ◌-◌, cond, List, [], ◌∷◌, 
 use Rattle.std.specs.Str.{bytes_eq}
 use Rattle.steps.specs.Meaning.{Str, Transitions, Independence}
 use Rattle.steps.specs.declared.fault.MaskFault.{MaskFault}
-use Rattle.steps.specs.Told.{next_told}
+use Rattle.steps.specs.Answers.{next_answer}
 use Rattle.runs.specs.Join.{join}
 use Rattle.joins.specs.Join.{added_of}
 use Rattle.bench.specs.declared.fault.BenchFault.{BenchFault}
@@ -11,19 +11,19 @@ use Rattle.bench.specs.declared.fault.BenchFault.TheVariants.{NoSheet, WrongStan
 use Rattle.bench.specs.declared.sheet.Standing.TheVariants.{Blank, Open, Released}
 use Rattle.bench.specs.declared.sheet.Sheet.{Sheet}
 use Rattle.bench.specs.Page.{Page, page_of, steps_of}
-use Rattle.bench.specs.Replay.{end_told}
+use Rattle.bench.specs.Replay.{end_answer}
 use Rattle.bench.specs.Calls.{Done, Outcome, then, from_system, when_open}
 
 -- the state that steps lead to, or why one does not follow
 abbrev pub led : Transitions → Str → List Str → Result Str MaskFault
 led t a [] = Ok a
-led t a (x ∷ xs) = elim (next_told t a x 256) [ Ok b ↦ led t b xs | Err f ↦ Err f ]
+led t a (x ∷ xs) = elim (next_answer t a x 256) [ Ok b ↦ led t b xs | Err f ↦ Err f ]
 
 -- both sheets replay and start alike: the end of the first
 abbrev pub alike : Transitions → Page → Page → Result Str BenchFault
 alike t p e =
-    then (end_told t p) (λ a.
-    then (end_told t e) (λ _.
+    then (end_answer t p) (λ a.
+    then (end_answer t e) (λ _.
     cond (bytes_eq p.start e.start) (Ok a) (Err StartsDiffer)))
 
 -- steps that survive, behind n steps that end in a: there must be room for them, and for the states that they lead to
@@ -62,6 +62,6 @@ abbrev pub named_page : Option Sheet → Option Page
 named_page None = None
 named_page (Some s) = Some (page_of s)
 
-abbrev pub pair_told : Result (ℕ × ℕ) BenchFault → Result Str BenchFault
-pair_told (Ok (n, k)) = Ok (n ∷ k ∷ [])
-pair_told (Err f) = Err f
+abbrev pub pair_answer : Result (ℕ × ℕ) BenchFault → Result Str BenchFault
+pair_answer (Ok (n, k)) = Ok (n ∷ k ∷ [])
+pair_answer (Err f) = Err f

@@ -2,11 +2,11 @@
 use Rattle.std.specs.Prelude.{ℕ, ◌+◌, ◌*◌, cond, List, [], ◌∷◌, ◌++◌, length, Ok, Err, nat_le}
 use Rattle.std.specs.List.{flat_map}
 use Rattle.steps.specs.Meaning.{Str, Transitions}
-use Rattle.steps.specs.Told.{told_length}
+use Rattle.steps.specs.Answers.{told_length}
 use Rattle.hexadecimal.specs.Line.{line}
 use Rattle.bench.specs.declared.fault.BenchFault.TheVariants.{TextTooLong}
 use Rattle.bench.specs.Page.{Page, steps_of}
-use Rattle.bench.specs.Replay.{end_told}
+use Rattle.bench.specs.Replay.{end_answer}
 use Rattle.bench.specs.Calls.{Outcome, then, when_released}
 
 abbrev pub step_line : Transitions → Str → Str
@@ -30,5 +30,5 @@ text_length p a = (2 * length p.start + 5) + (lines_length (steps_of p) + (2 * l
 -- a print, asked for in a buffer of n bytes; it changes nothing
 abbrev pub printed : Transitions → ℕ → Page → Outcome
 printed t n p =
-    when_released p (then (end_told t p) (λ a.
+    when_released p (then (end_answer t p) (λ a.
     cond (nat_le (length (sheet_text t p a)) n) (Ok (record { answer = sheet_text t p a; page = p })) (Err (TextTooLong (told_length (length (sheet_text t p a)))))))

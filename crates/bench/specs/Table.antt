@@ -11,8 +11,8 @@ abbrev pub pages_of : Bench → List Page
 pages_of b = map page_of b.sheets
 
 -- the index of sheet s, which has to be one of the four
-abbrev pub index_told : ℕ → Result ℕ BenchFault
-index_told s = cond (nat_lt s 4) (Ok s) (Err (NoSheet 1))
+abbrev pub index_answer : ℕ → Result ℕ BenchFault
+index_answer s = cond (nat_lt s 4) (Ok s) (Err (NoSheet 1))
 
 -- a call on sheet s, which has to be one of the four
 abbrev pub on_sheet : List Page → ℕ → (Page → Outcome) → Outcome

@@ -1,7 +1,7 @@
 // Held states: the one that follows, the one that a list of steps leads to, and the one that is answered.
 ghost use Rattle.std.specs.Prelude.{◌≡◌, ◌≤◌, length};
-ghost use Rattle.byte_strings.specs.Buffer.{count, kept};
-ghost use Rattle.steps.specs.Told.{next_told, state_fits};
+ghost use Rattle.byte_strings.specs.Buffer.{count, buffer_after};
+ghost use Rattle.steps.specs.Answers.{next_answer, fitting_state};
 ghost use Rattle.bench.specs.Walk.{walked};
 
 use byte_strings::held::Held;
@@ -21,7 +21,7 @@ pub(crate) fn following<S: StepSystem>(
     state: &Held<256>,
     step: &[u8],
 ) -> Result<Held<256>, MaskFault>
-    ensures { result ≡ next_told (S.transitions system.now) state.now step.now 256 }
+    ensures { result ≡ next_answer (S.transitions system.now) state.now step.now 256 }
 {
     // A lent buffer and a length: so the interface of step systems answers, without a heap.
     let mut bytes = [0u8; 256];
@@ -52,8 +52,8 @@ pub(crate) fn walk<S: StepSystem>(
 
 // Writes a state over the front of a buffer and answers its length, or refuses as the system would where it has no room.
 pub(crate) fn answer(state: &Held<256>, out: &mut [u8]) -> Result<usize, MaskFault>
-    ensures answer { result ≡ count (state_fits state.now (length out.old)) }
-    ensures buffer { out.new ≡ kept (state_fits state.now (length out.old)) out.old }
+    ensures answer { result ≡ count (fitting_state state.now (length out.old)) }
+    ensures buffer { out.new ≡ buffer_after (fitting_state state.now (length out.old)) out.old }
 {
     // It fits, so no `try_from`: a held state has at most 256 bytes.
     let needed = state.items().len() as u16;

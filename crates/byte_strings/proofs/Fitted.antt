@@ -1,9 +1,9 @@
 -- A list that was made of given items. Assumes nothing.
 use Rattle.std.proofs.Common.{◌≡◌, ℕ, Bool, true, false, cond, leb, List, length, Some, None, arith}
-use Rattle.byte_strings.specs.Fitted.{fitted}
+use Rattle.byte_strings.specs.Fitted.{list_within}
 
 -- it has these items
-pub fitted_is : {A : Type 0} (items held : List A) (n : ℕ) → Some held ≡ fitted n items → held ≡ items
+pub fitted_is : {A : Type 0} (items held : List A) (n : ℕ) → Some held ≡ list_within n items → held ≡ items
 fitted_is items held n e = go (leb (length items) n) e
   where
     go : (b : Bool) → Some held ≡ cond b (Some items) None → held ≡ items

@@ -3,13 +3,13 @@ use Rattle.std.proofs.Common.{◌≡◌, ℕ, ◌+◌, ◌-◌, ◌<◌, ◌≤�
 use borrow.Rule.Slice.PartMut.{put_mid}
 use Rattle.std.proofs.lemmas.List.{append-nil, take_all, take_at, drop_at, drop_all, drop-drop, drop_more, set_at}
 use Rattle.std.proofs.lemmas.Bool.{cond-true, cond-false, le-leb, lt-leb}
-use Rattle.byte_strings.specs.Buffer.{Str, over, copied_length, copied}
+use Rattle.byte_strings.specs.Buffer.{Str, over, copy_length, buffer_after_copy}
 
 -- a copy, where there is room and where there is none
-pub copied_over : (w o : Str) → length w ≤ length o → (Some (length w) ≡ copied_length w (length o)) × (copied w o ≡ over w o)
+pub copied_over : (w o : Str) → length w ≤ length o → (Some (length w) ≡ copy_length w (length o)) × (buffer_after_copy w o ≡ over w o)
 copied_over w o room = (sym (cond-true (leb (length w) (length o)) _ _ (le-leb _ _ room)), cond-true (leb (length w) (length o)) _ _ (le-leb _ _ room))
 
-pub copied_not : (w o : Str) → length o < length w → (None ≡ copied_length w (length o)) × (o ≡ copied w o)
+pub copied_not : (w o : Str) → length o < length w → (None ≡ copy_length w (length o)) × (o ≡ buffer_after_copy w o)
 copied_not w o short = (sym (cond-false (leb (length w) (length o)) _ _ (lt-leb _ _ short)), sym (cond-false (leb (length w) (length o)) _ _ (lt-leb _ _ short)))
 
 pub length_over : (w o : Str) → length w ≤ length o → length (over w o) ≡ length o
@@ -34,7 +34,7 @@ over_part w v o p ys n len room first second =
     rw (front, behind, wrote, append-nil) (join_over w v o)
 
 -- the same of a copy
-pub copied_part : (w v o p ys : Str) (n : ℕ) → length w ≡ n → length w + length v ≤ length o → p ≡ over w o → ys ≡ copied v (take (length p - n) (drop n p)) → put_mid n (length p - n) p ys ≡ over (w ++ v) o
+pub copied_part : (w v o p ys : Str) (n : ℕ) → length w ≡ n → length w + length v ≤ length o → p ≡ over w o → ys ≡ buffer_after_copy v (take (length p - n) (drop n p)) → put_mid n (length p - n) p ys ≡ over (w ++ v) o
 copied_part w v o p ys n len room first second =
     let long : length p ≡ length o = ap length first ∙ length_over w o (omega arith) in
     let part : length (take (length p - n) (drop n p)) ≡ length o - n = ap length (take_all (length p - n) (drop n p) (omega (arith, length-drop n p))) ∙ length-drop n p ∙ ap (λ k. k - n) long in

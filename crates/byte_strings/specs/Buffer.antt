@@ -14,9 +14,9 @@ abbrev pub count : {F : Type 0} → Result Str F → Result ℕ F
 count (Ok w) = Ok (length w)
 count (Err f) = Err f
 
-abbrev pub kept : {F : Type 0} → Result Str F → Str → Str
-kept (Ok w) buffer = over w buffer
-kept (Err f) buffer = buffer
+abbrev pub buffer_after : {F : Type 0} → Result Str F → Str → Str
+buffer_after (Ok w) buffer = over w buffer
+buffer_after (Err f) buffer = buffer
 
 -- the same of an answer that may be none
 abbrev pub count_some : {F : Type 0} → Result (Option Str) F → Result (Option ℕ) F
@@ -24,14 +24,14 @@ count_some (Ok (Some w)) = Ok (Some (length w))
 count_some (Ok None) = Ok None
 count_some (Err f) = Err f
 
-abbrev pub kept_some : {F : Type 0} → Result (Option Str) F → Str → Str
-kept_some (Ok (Some w)) buffer = over w buffer
-kept_some (Ok None) buffer = buffer
-kept_some (Err f) buffer = buffer
+abbrev pub buffer_after_some : {F : Type 0} → Result (Option Str) F → Str → Str
+buffer_after_some (Ok (Some w)) buffer = over w buffer
+buffer_after_some (Ok None) buffer = buffer
+buffer_after_some (Err f) buffer = buffer
 
 -- a string copied over the front of a buffer that has room for it
-abbrev pub copied_length : Str → ℕ → Option ℕ
-copied_length s n = cond (nat_le (length s) n) (Some (length s)) None
+abbrev pub copy_length : Str → ℕ → Option ℕ
+copy_length s n = cond (nat_le (length s) n) (Some (length s)) None
 
-abbrev pub copied : Str → Str → Str
-copied s buffer = cond (nat_le (length s) (length buffer)) (over s buffer) buffer
+abbrev pub buffer_after_copy : Str → Str → Str
+buffer_after_copy s buffer = cond (nat_le (length s) (length buffer)) (over s buffer) buffer

@@ -2,5 +2,5 @@
 use Rattle.std.specs.Prelude.{ℕ, cond, List, length, Some, None, Option, nat_le}
 
 -- items, where there are at most n
-abbrev pub fitted : {A : Type 0} → ℕ → List A → Option (List A)
-fitted n items = cond (nat_le (length items) n) (Some items) None
+abbrev pub list_within : {A : Type 0} → ℕ → List A → Option (List A)
+list_within n items = cond (nat_le (length items) n) (Some items) None

@@ -284,11 +284,11 @@ told limit s (Ok x) = (λ e. (refl, fits (nat_le (length s) limit) refl e), λ h
     fits false f e = absurd (cc e)
 told limit s (Err k) = (λ e. absurd (cc e), λ h. absurd (cc h.0))
 
-states_told : (n : ℕ) (s : Str) → (past 256 s (result_err (read_term n s)) ≡ None) ↔ ((is_ok (read_term n s) ≡ true) × (length s ≤ 256))
-states_told n s = told 256 s (read_term n s)
+state_refusals : (n : ℕ) (s : Str) → (past 256 s (result_err (read_term n s)) ≡ None) ↔ ((is_ok (read_term n s) ≡ true) × (length s ≤ 256))
+state_refusals n s = told 256 s (read_term n s)
 
-steps_told : (x : Str) → ((or_else (past 64 x (result_err (read_proof x))) (improper_of (read_proof x)) ≡ None) × (false ≡ false)) ↔ ((is_ok (read_step x) ≡ true) × (length x ≤ 64))
-steps_told x = (λ e. there (past 64 x (result_err (read_proof x))) refl e.0, λ h. (back (read_proof x) refl h.0 h.1, refl))
+step_refusals : (x : Str) → ((or_else (past 64 x (result_err (read_proof x))) (improper_of (read_proof x)) ≡ None) × (false ≡ false)) ↔ ((is_ok (read_step x) ≡ true) × (length x ≤ 64))
+step_refusals x = (λ e. there (past 64 x (result_err (read_proof x))) refl e.0, λ h. (back (read_proof x) refl h.0 h.1, refl))
   where
     proper_there : (r : Result Proof ℕ) → is_ok r ≡ true → improper_of r ≡ None → is_ok (proper_only r) ≡ true
     proper_there (Ok t) f e = rw e refl
@@ -309,8 +309,8 @@ steps_told x = (λ e. there (past 64 x (result_err (read_proof x))) refl e.0, λ
 pub terms_laws : (ds : List Term) → sound_bodies (length ds) ds ≡ true → Laws (terms_transitions ds) terms_independence
 terms_laws ds sound =
     record {
-      states_told = states_told (length ds);
-      steps_told = steps_told;
+      state_refusals = state_refusals (length ds);
+      step_refusals = step_refusals;
       leads = leads ds sound;
       between_steps = between_steps;
       symmetric = symmetric;

@@ -13,8 +13,8 @@ use Rattle.actions.specs.declared.pairs.Pair.{Pair}
 use Rattle.frame.specs.Frames.{SystemView, FrameView, PairsAllowed, NamesAllowed, pair_bytes, definitions, system_bytes, kind_of, setup_bytes, bytes_of, LaidOut, Few, Many, WithinRules, Accepted, Begins, frame_limit, names_place, count_place, first_place, body_place}
 use Rattle.frame.specs.Frames.SystemView.{terms, net}
 use Rattle.frame.specs.Frames.FrameView.{setup, open_sheet, add, swap, withdraw, join, release, reopen, print, look}
-use Rattle.frame.specs.Rules.{few, pairs_told, names_told, rules_told}
-use Rattle.frame.specs.Reading.{Layout, layout_told, parts_told, setup_told, sheet_rest_told, sheet_told, sheet_byte_told, bytes_told, frame_told, frame_view, viewed}
+use Rattle.frame.specs.Rules.{few, pairs_answer, names_answer, rules_answer}
+use Rattle.frame.specs.Reading.{Layout, layout_answer, parts_answer, setup_answer, sheet_rest_answer, sheet_answer, sheet_byte_answer, string_answer, frame_answer, frame_view, viewed}
 use Rattle.frame.specs.Format.{AreBytes, ReadsFrames, MalformedAt, PlacesMalformed, BadAt, PlacesBadSetups, PlacesBodies, PlacesEvents}
 use Rattle.frame.specs.Format.BadAt.{kind, many_pairs, bad_pair, many_names, bad_name, many_parts}
 use Rattle.frame.proofs.Calls.{within_told}
@@ -113,11 +113,11 @@ lone_right call b = record {
 }
 
 -- a call with a rest
-open_right : (rest : List ℕ) → Right (0xB0 ∷ rest) (sheet_rest_told open_sheet rest)
+open_right : (rest : List ℕ) → Right (0xB0 ∷ rest) (sheet_rest_answer open_sheet rest)
 open_right [] = lone_right 0xB0 (open_sheet 0 [], 0 ∷ [], tt, refl)
 open_right (sheet ∷ state) = (refl, tt, tt)
 
-add_right : (rest : List ℕ) → Right (0xB1 ∷ rest) (sheet_rest_told add rest)
+add_right : (rest : List ℕ) → Right (0xB1 ∷ rest) (sheet_rest_answer add rest)
 add_right [] = lone_right 0xB1 (add 0 [], 0 ∷ [], tt, refl)
 add_right (sheet ∷ step) = (refl, tt, tt)
 
@@ -143,36 +143,36 @@ extra_right call n s h is many b = record {
     longer (suc m) k w (f, more, l, e) = absurd (omega (arith, sized call h f (take m s ++ more) e, ap length e, length-append (take m s) more, length-take m s))
 
 -- a call with a sheet alone, and one with a sheet and one byte more
-sheet_right : (call : ℕ) (frame : ℕ → FrameView) → 0xB1 < call → size call ≡ 2 → ((sheet : ℕ) → Right (call ∷ sheet ∷ []) (Ok (frame sheet))) → (rest : List ℕ) → Right (call ∷ rest) (sheet_told frame rest)
+sheet_right : (call : ℕ) (frame : ℕ → FrameView) → 0xB1 < call → size call ≡ 2 → ((sheet : ℕ) → Right (call ∷ sheet ∷ []) (Ok (frame sheet))) → (rest : List ℕ) → Right (call ∷ rest) (sheet_answer frame rest)
 sheet_right call frame h is r [] = missing_right call 2 [] h is (omega arith) (frame 0, 0 ∷ [], (r 0).1, (r 0).0)
 sheet_right call frame h is r (sheet ∷ []) = r sheet
 sheet_right call frame h is r (sheet ∷ x ∷ rest) = extra_right call 2 (sheet ∷ x ∷ rest) h is (omega arith) (frame sheet, [], (r sheet).1, (r sheet).0)
 
-sheet_byte_right : (call : ℕ) (frame : ℕ → ℕ → FrameView) → 0xB1 < call → size call ≡ 3 → ((sheet byte : ℕ) → Right (call ∷ sheet ∷ byte ∷ []) (Ok (frame sheet byte))) → (rest : List ℕ) → Right (call ∷ rest) (sheet_byte_told frame rest)
+sheet_byte_right : (call : ℕ) (frame : ℕ → ℕ → FrameView) → 0xB1 < call → size call ≡ 3 → ((sheet byte : ℕ) → Right (call ∷ sheet ∷ byte ∷ []) (Ok (frame sheet byte))) → (rest : List ℕ) → Right (call ∷ rest) (sheet_byte_answer frame rest)
 sheet_byte_right call frame h is r [] = missing_right call 3 [] h is (omega arith) (frame 0 0, 0 ∷ 0 ∷ [], (r 0 0).1, (r 0 0).0)
 sheet_byte_right call frame h is r (sheet ∷ []) = missing_right call 3 (sheet ∷ []) h is (omega arith) (frame sheet 0, 0 ∷ [], (r sheet 0).1, (r sheet 0).0)
 sheet_byte_right call frame h is r (sheet ∷ byte ∷ []) = r sheet byte
 sheet_byte_right call frame h is r (sheet ∷ byte ∷ x ∷ rest) = extra_right call 3 (sheet ∷ byte ∷ x ∷ rest) h is (omega arith) (frame sheet byte, [], (r sheet byte).1, (r sheet byte).0)
 
-swap_right : (rest : List ℕ) → Right (0xB2 ∷ rest) (sheet_byte_told swap rest)
+swap_right : (rest : List ℕ) → Right (0xB2 ∷ rest) (sheet_byte_answer swap rest)
 swap_right = sheet_byte_right 0xB2 swap (omega arith) refl (λ sheet place. (refl, tt, tt))
 
-withdraw_right : (rest : List ℕ) → Right (0xB3 ∷ rest) (sheet_told withdraw rest)
+withdraw_right : (rest : List ℕ) → Right (0xB3 ∷ rest) (sheet_answer withdraw rest)
 withdraw_right = sheet_right 0xB3 withdraw (omega arith) refl (λ sheet. (refl, tt, tt))
 
-join_right : (rest : List ℕ) → Right (0xB4 ∷ rest) (sheet_byte_told join rest)
+join_right : (rest : List ℕ) → Right (0xB4 ∷ rest) (sheet_byte_answer join rest)
 join_right = sheet_byte_right 0xB4 join (omega arith) refl (λ sheet other. (refl, tt, tt))
 
-release_right : (rest : List ℕ) → Right (0xB5 ∷ rest) (sheet_told release rest)
+release_right : (rest : List ℕ) → Right (0xB5 ∷ rest) (sheet_answer release rest)
 release_right = sheet_right 0xB5 release (omega arith) refl (λ sheet. (refl, tt, tt))
 
-reopen_right : (rest : List ℕ) → Right (0xB6 ∷ rest) (sheet_told reopen rest)
+reopen_right : (rest : List ℕ) → Right (0xB6 ∷ rest) (sheet_answer reopen rest)
 reopen_right = sheet_right 0xB6 reopen (omega arith) refl (λ sheet. (refl, tt, tt))
 
-print_right : (rest : List ℕ) → Right (0xB7 ∷ rest) (sheet_told print rest)
+print_right : (rest : List ℕ) → Right (0xB7 ∷ rest) (sheet_answer print rest)
 print_right = sheet_right 0xB7 print (omega arith) refl (λ sheet. (refl, tt, tt))
 
-look_right : (rest : List ℕ) → Right (0xB9 ∷ rest) (sheet_byte_told look rest)
+look_right : (rest : List ℕ) → Right (0xB9 ∷ rest) (sheet_byte_answer look rest)
 look_right = sheet_byte_right 0xB9 look (omega arith) refl (λ sheet count. (refl, tt, tt))
 
 -- setups
@@ -212,17 +212,17 @@ names_right ps ns system place l p is (Err (BadSetup k)) (inl (many, at)) = subs
 names_right ps ns system place l p is (Err (BadSetup k)) (inr (enough, bad)) = bad_name ps ns system (refl, l) p enough bad
 
 pairs_right : (ps : List Pair) (ns : List ℕ) (system : SystemView) (at place : ℕ) → LaidOut (setup ps ns system) → at ≡ names_place ps → place ≡ count_place ps ns → (r : Result (List Pair) FrameFault) → PairsTold ps r
-    → Right (bytes_of (setup ps ns system)) (elim r as (λ _. Result FrameView FrameFault) [ Err f ↦ Err f | Ok qs ↦ elim (names_told at ns) as (λ _. Result FrameView FrameFault) [ Err f ↦ Err f | Ok ms ↦ cond (few system) (Ok (setup qs ms system)) (Err (BadSetup place)) ] ])
+    → Right (bytes_of (setup ps ns system)) (elim r as (λ _. Result FrameView FrameFault) [ Err f ↦ Err f | Ok qs ↦ elim (names_answer at ns) as (λ _. Result FrameView FrameFault) [ Err f ↦ Err f | Ok ms ↦ cond (few system) (Ok (setup qs ms system)) (Err (BadSetup place)) ] ])
 pairs_right ps ns system at place l here is (Ok qs) (same, p) =
-    subst (λ qs. Right (bytes_of (setup ps ns system)) (elim (names_told at ns) as (λ _. Result FrameView FrameFault) [ Err f ↦ Err f | Ok ms ↦ cond (few system) (Ok (setup qs ms system)) (Err (BadSetup place)) ])) (sym same)
-    (names_right ps ns system place l p is (names_told at ns) (subst (λ k. NamesTold ps ns (names_told k ns)) (sym here) (told_names ps ns)))
+    subst (λ qs. Right (bytes_of (setup ps ns system)) (elim (names_answer at ns) as (λ _. Result FrameView FrameFault) [ Err f ↦ Err f | Ok ms ↦ cond (few system) (Ok (setup qs ms system)) (Err (BadSetup place)) ])) (sym same)
+    (names_right ps ns system place l p is (names_answer at ns) (subst (λ k. NamesTold ps ns (names_answer k ns)) (sym here) (told_names ps ns)))
 pairs_right ps ns system at place l here is (Err (Malformed k)) h = absurd h
 pairs_right ps ns system at place l here is (Err (BadSetup k)) (inl (many, two)) = subst (BadAt (bytes_of (setup ps ns system))) (sym two) (many_pairs ps ns system (refl, l) many)
 pairs_right ps ns system at place l here is (Err (BadSetup k)) (inr (enough, bad)) = bad_pair ps ns system (refl, l) enough bad
 
-rules_right : (ps : List Pair) (ns : List ℕ) (system : SystemView) → LaidOut (setup ps ns system) → Right (bytes_of (setup ps ns system)) (rules_told (pair_bytes ps) ns system)
+rules_right : (ps : List Pair) (ns : List ℕ) (system : SystemView) → LaidOut (setup ps ns system) → Right (bytes_of (setup ps ns system)) (rules_answer (pair_bytes ps) ns system)
 rules_right ps ns system l =
-    pairs_right ps ns system (3 + length (pair_bytes ps)) (3 + length (pair_bytes ps) + 1 + length ns) l (omega (arith, length-pair_bytes ps)) (omega (arith, length-pair_bytes ps)) (pairs_told (pair_bytes ps)) (told_pairs ps)
+    pairs_right ps ns system (3 + length (pair_bytes ps)) (3 + length (pair_bytes ps) + 1 + length ns) l (omega (arith, length-pair_bytes ps)) (omega (arith, length-pair_bytes ps)) (pairs_answer (pair_bytes ps)) (told_pairs ps)
 
 -- bytes behind the parts of a setup
 behind_right : (k : Kind) (ps : List Pair) (ns : List ℕ) (system : SystemView) (t : List ℕ) (p : ℕ) → kind_of system ≡ byte_of k → LaidOut (setup ps ns system) → 0 < length t → p ≡ length (setup_bytes ps ns system) + 2 → MalformedAt (0xA0 ∷ byte_of k ∷ (setup_bytes ps ns system ++ t)) p
@@ -247,7 +247,7 @@ behind_right k ps ns system t p same l some is = record {
         let none = ap length (ends k ps ns system (take m t ++ more) same l f l′ bytes) in
         omega (arith, none, length-append (take m t) more, length-take m t, length-append w t)
 
-parts_right : (k : Kind) (s : List ℕ) (o : Option Layout) → layout_told k s ≡ o → SetupTells k s o → Right (0xA0 ∷ byte_of k ∷ s) (parts_told (length s + 2) o)
+parts_right : (k : Kind) (s : List ℕ) (o : Option Layout) → layout_answer k s ≡ o → SetupTells k s o → Right (0xA0 ∷ byte_of k ∷ s) (parts_answer (length s + 2) o)
 parts_right k s None is (ps, ns, system, more, same, l, goes) = record {
   within = omega arith;
   begins = subst Begins (sym (take_all (length s + 2) (0xA0 ∷ byte_of k ∷ s) (omega arith))) (setup ps ns system, more, l, ap (λ j. 0xA0 ∷ j ∷ setup_bytes ps ns system) same ∙ ap (λ t. 0xA0 ∷ byte_of k ∷ t) goes);
@@ -257,12 +257,12 @@ parts_right k s None is (ps, ns, system, more, same, l, goes) = record {
 parts_right k s (Some l) is (ps, pairs, same, laid_out, goes) =
     cond_both (eqb (length l.behind) 0) _ _ (Right (0xA0 ∷ byte_of k ∷ s)) all extra
   where
-    all : eqb (length l.behind) 0 ≡ true → Right (0xA0 ∷ byte_of k ∷ s) (rules_told l.pairs l.names l.system)
+    all : eqb (length l.behind) 0 ≡ true → Right (0xA0 ∷ byte_of k ∷ s) (rules_answer l.pairs l.names l.system)
     all none =
         let empty : l.behind ≡ [] = nil_from_length l.behind (eqb-true _ _ none) in
         let whole : setup_bytes ps l.names l.system ≡ s = sym (goes ∙ (ap (λ t. setup_bytes ps l.names l.system ++ t) empty ∙ append-nil (setup_bytes ps l.names l.system))) in
         let bytes : bytes_of (setup ps l.names l.system) ≡ 0xA0 ∷ byte_of k ∷ s = ap (λ j. 0xA0 ∷ j ∷ setup_bytes ps l.names l.system) same ∙ ap (λ t. 0xA0 ∷ byte_of k ∷ t) whole in
-        subst (λ t. Right t (rules_told l.pairs l.names l.system)) bytes (subst (λ t. Right (bytes_of (setup ps l.names l.system)) (rules_told t l.names l.system)) (sym pairs) (rules_right ps l.names l.system laid_out))
+        subst (λ t. Right t (rules_answer l.pairs l.names l.system)) bytes (subst (λ t. Right (bytes_of (setup ps l.names l.system)) (rules_answer t l.names l.system)) (sym pairs) (rules_right ps l.names l.system laid_out))
 
     extra : eqb (length l.behind) 0 ≡ false → MalformedAt (0xA0 ∷ byte_of k ∷ s) (length s + 2 - length l.behind)
     extra some =
@@ -270,12 +270,12 @@ parts_right k s (Some l) is (ps, pairs, same, laid_out, goes) =
         subst (λ t. MalformedAt (0xA0 ∷ byte_of k ∷ t) (length s + 2 - length l.behind)) (sym goes)
         (behind_right k ps l.names l.system l.behind (length s + 2 - length l.behind) same laid_out (filled l.behind some) (omega (arith, len)))
 
-of_kind : (k : Kind) (j : ℕ) (s : List ℕ) → AreBytes (0xA0 ∷ j ∷ s) → eqb j (byte_of k) ≡ true → Right (0xA0 ∷ j ∷ s) (parts_told (length s + 2) (layout_told k s))
+of_kind : (k : Kind) (j : ℕ) (s : List ℕ) → AreBytes (0xA0 ∷ j ∷ s) → eqb j (byte_of k) ≡ true → Right (0xA0 ∷ j ∷ s) (parts_answer (length s + 2) (layout_answer k s))
 of_kind k j s h is =
     let rest : AreBytes s = All-tail (λ b. b < 256) j s (All-tail (λ b. b < 256) 0xA0 (j ∷ s) h) in
-    subst (λ i. Right (0xA0 ∷ i ∷ s) (parts_told (length s + 2) (layout_told k s))) (sym (eqb-true _ _ is)) (parts_right k s (layout_told k s) refl (setup_tells k s rest))
+    subst (λ i. Right (0xA0 ∷ i ∷ s) (parts_answer (length s + 2) (layout_answer k s))) (sym (eqb-true _ _ is)) (parts_right k s (layout_answer k s) refl (setup_tells k s rest))
 
-setup_right : (rest : List ℕ) → AreBytes (0xA0 ∷ rest) → Right (0xA0 ∷ rest) (setup_told rest)
+setup_right : (rest : List ℕ) → AreBytes (0xA0 ∷ rest) → Right (0xA0 ∷ rest) (setup_answer rest)
 unfolding pair_bytes
 setup_right [] h = lone_right 0xA0 (setup [] [] (net []), 2 ∷ 0 ∷ 0 ∷ 0 ∷ [], (omega arith, omega arith, no_items 17), refl)
 setup_right (k ∷ s) h =
@@ -288,19 +288,19 @@ setup_right (k ∷ s) h =
 at_call : (call code : ℕ) (rest : List ℕ) (r : Result FrameView FrameFault) → eqb call code ≡ true → Right (code ∷ rest) r → Right (call ∷ rest) r
 at_call call code rest r is h = subst (λ c. Right (c ∷ rest) r) (sym (eqb-true call code is)) h
 
-bytes_right : (s : List ℕ) → AreBytes s → Right s (bytes_told s)
+bytes_right : (s : List ℕ) → AreBytes s → Right s (string_answer s)
 bytes_right [] h = nothing_right
 bytes_right (call ∷ rest) h =
-    cond_both (eqb call 0xA0) _ _ (Right (call ∷ rest)) (λ is. at_call call 0xA0 rest (setup_told rest) is (setup_right rest (subst (λ c. AreBytes (c ∷ rest)) (eqb-true call 0xA0 is) h))) (λ n0.
-    cond_both (eqb call 0xB0) _ _ (Right (call ∷ rest)) (λ is. at_call call 0xB0 rest (sheet_rest_told open_sheet rest) is (open_right rest)) (λ n1.
-    cond_both (eqb call 0xB1) _ _ (Right (call ∷ rest)) (λ is. at_call call 0xB1 rest (sheet_rest_told add rest) is (add_right rest)) (λ n2.
-    cond_both (eqb call 0xB2) _ _ (Right (call ∷ rest)) (λ is. at_call call 0xB2 rest (sheet_byte_told swap rest) is (swap_right rest)) (λ n3.
-    cond_both (eqb call 0xB3) _ _ (Right (call ∷ rest)) (λ is. at_call call 0xB3 rest (sheet_told withdraw rest) is (withdraw_right rest)) (λ n4.
-    cond_both (eqb call 0xB4) _ _ (Right (call ∷ rest)) (λ is. at_call call 0xB4 rest (sheet_byte_told join rest) is (join_right rest)) (λ n5.
-    cond_both (eqb call 0xB5) _ _ (Right (call ∷ rest)) (λ is. at_call call 0xB5 rest (sheet_told release rest) is (release_right rest)) (λ n6.
-    cond_both (eqb call 0xB6) _ _ (Right (call ∷ rest)) (λ is. at_call call 0xB6 rest (sheet_told reopen rest) is (reopen_right rest)) (λ n7.
-    cond_both (eqb call 0xB7) _ _ (Right (call ∷ rest)) (λ is. at_call call 0xB7 rest (sheet_told print rest) is (print_right rest)) (λ n8.
-    cond_both (eqb call 0xB9) _ _ (Right (call ∷ rest)) (λ is. at_call call 0xB9 rest (sheet_byte_told look rest) is (look_right rest)) (λ n9.
+    cond_both (eqb call 0xA0) _ _ (Right (call ∷ rest)) (λ is. at_call call 0xA0 rest (setup_answer rest) is (setup_right rest (subst (λ c. AreBytes (c ∷ rest)) (eqb-true call 0xA0 is) h))) (λ n0.
+    cond_both (eqb call 0xB0) _ _ (Right (call ∷ rest)) (λ is. at_call call 0xB0 rest (sheet_rest_answer open_sheet rest) is (open_right rest)) (λ n1.
+    cond_both (eqb call 0xB1) _ _ (Right (call ∷ rest)) (λ is. at_call call 0xB1 rest (sheet_rest_answer add rest) is (add_right rest)) (λ n2.
+    cond_both (eqb call 0xB2) _ _ (Right (call ∷ rest)) (λ is. at_call call 0xB2 rest (sheet_byte_answer swap rest) is (swap_right rest)) (λ n3.
+    cond_both (eqb call 0xB3) _ _ (Right (call ∷ rest)) (λ is. at_call call 0xB3 rest (sheet_answer withdraw rest) is (withdraw_right rest)) (λ n4.
+    cond_both (eqb call 0xB4) _ _ (Right (call ∷ rest)) (λ is. at_call call 0xB4 rest (sheet_byte_answer join rest) is (join_right rest)) (λ n5.
+    cond_both (eqb call 0xB5) _ _ (Right (call ∷ rest)) (λ is. at_call call 0xB5 rest (sheet_answer release rest) is (release_right rest)) (λ n6.
+    cond_both (eqb call 0xB6) _ _ (Right (call ∷ rest)) (λ is. at_call call 0xB6 rest (sheet_answer reopen rest) is (reopen_right rest)) (λ n7.
+    cond_both (eqb call 0xB7) _ _ (Right (call ∷ rest)) (λ is. at_call call 0xB7 rest (sheet_answer print rest) is (print_right rest)) (λ n8.
+    cond_both (eqb call 0xB9) _ _ (Right (call ∷ rest)) (λ is. at_call call 0xB9 rest (sheet_byte_answer look rest) is (look_right rest)) (λ n9.
     unknown_right call rest (record {
       not_setup = eqb-false call 0xA0 n0;
       not_open = eqb-false call 0xB0 n1;
@@ -314,20 +314,20 @@ bytes_right (call ∷ rest) h =
       not_look = eqb-false call 0xB9 n9;
     })))))))))))
 
-setup_read : (k : Kind) (ps : List Pair) (ns : List ℕ) (system : SystemView) → kind_of system ≡ byte_of k → LaidOut (setup ps ns system) → WithinRules (setup ps ns system) → parts_told (length (setup_bytes ps ns system) + 2) (layout_told k (setup_bytes ps ns system)) ≡ Ok (setup ps ns system)
+setup_read : (k : Kind) (ps : List Pair) (ns : List ℕ) (system : SystemView) → kind_of system ≡ byte_of k → LaidOut (setup ps ns system) → WithinRules (setup ps ns system) → parts_answer (length (setup_bytes ps ns system) + 2) (layout_answer k (setup_bytes ps ns system)) ≡ Ok (setup ps ns system)
 setup_read k ps ns system same l (p, n, enough) =
-    let built : layout_told k (setup_bytes ps ns system) ≡ Some (laid (pair_bytes ps) ns system []) = ap (layout_told k) (sym (append-nil (setup_bytes ps ns system))) ∙ layout_built k ps ns system [] same l in
+    let built : layout_answer k (setup_bytes ps ns system) ≡ Some (laid (pair_bytes ps) ns system []) = ap (layout_answer k) (sym (append-nil (setup_bytes ps ns system))) ∙ layout_built k ps ns system [] same l in
     let here : 3 + length (pair_bytes ps) ≡ names_place ps = omega (arith, length-pair_bytes ps) in
-    let names : names_told (3 + length (pair_bytes ps)) ns ≡ Ok ns = ap (λ k. names_told k ns) here ∙ names_kept ps ns n in
+    let names : names_answer (3 + length (pair_bytes ps)) ns ≡ Ok ns = ap (λ k. names_answer k ns) here ∙ names_kept ps ns n in
     let counted : ◌≡◌ {A = Result FrameView FrameFault} (cond (few system) (Ok (setup ps ns system)) (Err (BadSetup (3 + length (pair_bytes ps) + 1 + length ns)))) (Ok (setup ps ns system)) = rw (is_few system enough) refl in
-    let ruled : rules_told (pair_bytes ps) ns system ≡ Ok (setup ps ns system) =
-    ap (λ (r : Result (List Pair) FrameFault). elim r as (λ _. Result FrameView FrameFault) [ Err f ↦ Err f | Ok qs ↦ elim (names_told (3 + length (pair_bytes ps)) ns) as (λ _. Result FrameView FrameFault) [ Err f ↦ Err f | Ok ms ↦ cond (few system) (Ok (setup qs ms system)) (Err (BadSetup (3 + length (pair_bytes ps) + 1 + length ns))) ] ]) (pairs_kept ps p)
+    let ruled : rules_answer (pair_bytes ps) ns system ≡ Ok (setup ps ns system) =
+    ap (λ (r : Result (List Pair) FrameFault). elim r as (λ _. Result FrameView FrameFault) [ Err f ↦ Err f | Ok qs ↦ elim (names_answer (3 + length (pair_bytes ps)) ns) as (λ _. Result FrameView FrameFault) [ Err f ↦ Err f | Ok ms ↦ cond (few system) (Ok (setup qs ms system)) (Err (BadSetup (3 + length (pair_bytes ps) + 1 + length ns))) ] ]) (pairs_kept ps p)
     ∙ ap (λ (r : Result (List ℕ) FrameFault). elim r as (λ _. Result FrameView FrameFault) [ Err f ↦ Err f | Ok ms ↦ cond (few system) (Ok (setup ps ms system)) (Err (BadSetup (3 + length (pair_bytes ps) + 1 + length ns))) ]) names
     ∙ counted in
-    ap (parts_told (length (setup_bytes ps ns system) + 2)) built ∙ ruled
+    ap (parts_answer (length (setup_bytes ps ns system) + 2)) built ∙ ruled
 
 -- the bytes of an accepted frame are read as that frame
-accepted_read : (f : FrameView) → LaidOut f → WithinRules f → bytes_told (bytes_of f) ≡ Ok f
+accepted_read : (f : FrameView) → LaidOut f → WithinRules f → string_answer (bytes_of f) ≡ Ok f
 accepted_read (setup ps ns (terms bs)) l r = setup_read Terms ps ns (terms bs) refl l r
 accepted_read (setup ps ns (net es)) l r = setup_read Net ps ns (net es) refl l r
 accepted_read (open_sheet sheet state) l r = refl
@@ -340,28 +340,28 @@ accepted_read (reopen sheet) l r = refl
 accepted_read (print sheet) l r = refl
 accepted_read (look sheet count) l r = refl
 
-within_limit : (s : List ℕ) → AreBytes s → length s ≤ frame_limit → Right s (frame_told s)
+within_limit : (s : List ℕ) → AreBytes s → length s ≤ frame_limit → Right s (frame_answer s)
 within_limit s b h = subst (Right s) (sym (within_told s h)) (bytes_right s b)
 
 -- an answer other than the refusal of what is too long comes from the bytes
-bytes_answer : (s : List ℕ) (r : Result FrameView FrameFault) → (r ≡ Err (Malformed frame_limit) → ⊥) → frame_told s ≡ r → (length s ≤ frame_limit) × (bytes_told s ≡ r)
+bytes_answer : (s : List ℕ) (r : Result FrameView FrameFault) → (r ≡ Err (Malformed frame_limit) → ⊥) → frame_answer s ≡ r → (length s ≤ frame_limit) × (string_answer s ≡ r)
 bytes_answer s r other e = cases (leb (length s) frame_limit) refl e
   where
-    cases : (t : Bool) → leb (length s) frame_limit ≡ t → cond t (bytes_told s) (Err (Malformed frame_limit)) ≡ r → (length s ≤ frame_limit) × (bytes_told s ≡ r)
+    cases : (t : Bool) → leb (length s) frame_limit ≡ t → cond t (string_answer s) (Err (Malformed frame_limit)) ≡ r → (length s ≤ frame_limit) × (string_answer s ≡ r)
     cases true is h = (leb-true _ _ is, h)
     cases false is h = absurd (other (sym h))
 
 pub reads_frames : ReadsFrames
 reads_frames s f b = (there, back)
   where
-    there : frame_told s ≡ Ok f → (bytes_of f ≡ s) × Accepted f
+    there : frame_answer s ≡ Ok f → (bytes_of f ≡ s) × Accepted f
     there e =
         let (within, told) = bytes_answer s (Ok f) (λ h. let z : ◌≡◌ {A = ℕ} 0 1 = cc in omega arith) e in
         let (is, l, r) = subst (Right s) told (bytes_right s b) in
         (is, (l, r, subst (λ t. length t ≤ frame_limit) (sym is) within))
 
-    back : (bytes_of f ≡ s) × Accepted f → frame_told s ≡ Ok f
-    back (is, (l, r, fits)) = subst (λ t. frame_told t ≡ Ok f) is (within_told (bytes_of f) fits ∙ accepted_read f l r)
+    back : (bytes_of f ≡ s) × Accepted f → frame_answer s ≡ Ok f
+    back (is, (l, r, fits)) = subst (λ t. frame_answer t ≡ Ok f) is (within_told (bytes_of f) fits ∙ accepted_read f l r)
 
 pub places_malformed : PlacesMalformed
 places_malformed s place b fits e = subst (Right s) e (within_limit s b fits)
@@ -372,7 +372,7 @@ places_bad_setups s place b e =
     subst (Right s) told (bytes_right s b)
 
 -- what stands from the first definition or event on
-read_first : (s : List ℕ) (ps : List Pair) (ns : List ℕ) (system : SystemView) → AreBytes s → frame_told s ≡ Ok (setup ps ns system) → drop (first_place ps ns) s ≡ system_bytes system
+read_first : (s : List ℕ) (ps : List Pair) (ns : List ℕ) (system : SystemView) → AreBytes s → frame_answer s ≡ Ok (setup ps ns system) → drop (first_place ps ns) s ≡ system_bytes system
 read_first s ps ns system b e = ap (drop (first_place ps ns)) (sym ((reads_frames s (setup ps ns system) b).0 e).0) ∙ at_first ps ns system
 
 pub places_bodies : PlacesBodies
@@ -390,6 +390,6 @@ places_bodies s ps ns front body back b e =
 pub places_events : PlacesEvents
 places_events s ps ns events i b e = sym (drop-drop (17 * i) (first_place ps ns) s) ∙ ap (drop (17 * i)) (read_first s ps ns (net events) b e)
 
-pub rules_kept : (r : Result Frame FrameFault) (s : List ℕ) → ((i : ℕ) → get_or s i 0 < 256) → viewed frame_view r ≡ frame_told s → IfOk r (λ f. WithinRules (frame_view f))
+pub rules_kept : (r : Result Frame FrameFault) (s : List ℕ) → ((i : ℕ) → get_or s i 0 < 256) → viewed frame_view r ≡ frame_answer s → IfOk r (λ f. WithinRules (frame_view f))
 rules_kept (Ok f) s b e = ((reads_frames s (frame_view f) (All-from_get_or (λ b. b < 256) s 0 (λ i h. b i))).0 (sym e)).1.1
 rules_kept (Err fault) s b e = tt

@@ -7,13 +7,13 @@ use Rattle.std.proofs.lemmas.Option.{none-some, same_Some}
 use Rattle.std.proofs.lemmas.Bool.{le-leb, leb-true, leb-false}
 use Rattle.frame.specs.declared.layout.Kind.{Kind}
 use Rattle.frame.specs.declared.layout.Kind.TheVariants.{Terms, Net}
-use Rattle.frame.specs.Parts.{part_told, behind_told, bodies}
+use Rattle.frame.specs.Parts.{part_answer, behind_answer, bodies}
 use Rattle.actions.specs.declared.pairs.Pair.{Pair}
 use Rattle.frame.specs.Frames.{SystemView, FrameView, pair_bytes, definitions, count_of, system_bytes, kind_of, setup_bytes, bytes_of, Whole, WholeSystem, LaidOut}
 use Rattle.frame.specs.Frames.SystemView.{terms, net}
 use Rattle.frame.specs.Frames.FrameView.{setup, open_sheet, add, swap, withdraw, join, release, reopen, print, look}
 use Rattle.frame.specs.Format.{AreBytes}
-use Rattle.frame.specs.Reading.{Layout, with_behind, net_part, system_told, with_system, with_names, with_pairs, layout_told}
+use Rattle.frame.specs.Reading.{Layout, with_behind, net_part, system_answer, with_system, with_names, with_pairs, layout_answer}
 use Rattle.frame.proofs.Places.{length-pair_bytes}
 use Rattle.frame.proofs.Bodies.{all_there, bodies_end, bodies_more, behind_end, behind_missing, behind_more}
 
@@ -37,14 +37,14 @@ bytes_behind s front rest is h = subst AreBytes (ap (drop (length front)) is ∙
 abbrev counted : ℕ → List ℕ → List ℕ
 counted size items = length items / size ∷ items
 
-pub part_built : (size : ℕ) (items rest : List ℕ) → length items / size * size ≡ length items → part_told size (counted size items ++ rest) ≡ Some (items, rest)
+pub part_built : (size : ℕ) (items rest : List ℕ) → length items / size * size ≡ length items → part_answer size (counted size items ++ rest) ≡ Some (items, rest)
 part_built size items rest exact =
     let fits : leb (length items / size * size) (length (items ++ rest)) ≡ true = le-leb _ _ (omega (arith, length-append items rest)) in
     let front : take (length items / size * size) (items ++ rest) ≡ items = take_at items rest (length items / size * size) (sym exact) in
     let back : drop (length items / size * size) (items ++ rest) ≡ rest = drop_at items rest (length items / size * size) (sym exact) in
     rw (fits, front, back) refl
 
-pub part_sound : (size : ℕ) → 0 < size → (s items rest : List ℕ) → AreBytes s → part_told size s ≡ Some (items, rest) → (s ≡ counted size items ++ rest) × Whole size items
+pub part_sound : (size : ℕ) → 0 < size → (s items rest : List ℕ) → AreBytes s → part_answer size s ≡ Some (items, rest) → (s ≡ counted size items ++ rest) × Whole size items
 part_sound size pos [] items rest h e = absurd (none-some _ e)
 part_sound size pos (count ∷ s) items rest h e = cases (leb (count * size) (length s)) refl e
   where
@@ -59,7 +59,7 @@ part_sound size pos (count ∷ s) items rest h e = cases (leb (count * size) (le
         (ap (λ k. k ∷ s) (sym n) ∙ ap (λ t. length items / size ∷ t) whole, (count, first_byte count s h, len ∙ mul_comm count size))
 
 -- where bytes are missing, counted items go on from those that are there
-pub part_missing : (size : ℕ) → 0 < size → (s : List ℕ) → AreBytes s → part_told size s ≡ None → (items : List ℕ) × (more : List ℕ) × Whole size items × (counted size items ≡ s ++ more)
+pub part_missing : (size : ℕ) → 0 < size → (s : List ℕ) → AreBytes s → part_answer size s ≡ None → (items : List ℕ) × (more : List ℕ) × Whole size items × (counted size items ≡ s ++ more)
 part_missing size pos [] h e = ([], 0 / size ∷ [], (0, omega arith, omega arith), refl)
 part_missing size pos (count ∷ s) h e = cases (leb (count * size) (length s)) refl e
   where
@@ -80,27 +80,27 @@ definitions-cons : (b : List ℕ) (bs : List (List ℕ)) → definitions (b ∷ 
 unfolding definitions
 definitions-cons b bs = ap (λ t. t ++ definitions bs) (counted_bytes b)
 
-pub definitions_built : (bs : List (List ℕ)) (t : List ℕ) → (behind_told (length bs) (definitions bs ++ t) ≡ Some t) × (bodies (length bs) (definitions bs ++ t) ≡ bs)
+pub definitions_built : (bs : List (List ℕ)) (t : List ℕ) → (behind_answer (length bs) (definitions bs ++ t) ≡ Some t) × (bodies (length bs) (definitions bs ++ t) ≡ bs)
 unfolding definitions
 definitions_built [] t = (behind_end t, bodies_end t)
 definitions_built (b ∷ bs) t =
     let regroup : definitions (b ∷ bs) ++ t ≡ counted 1 b ++ (definitions bs ++ t) = ap (λ u. u ++ t) (definitions-cons b bs) ∙ append_assoc (counted 1 b) (definitions bs) t in
-    let told : part_told 1 (definitions (b ∷ bs) ++ t) ≡ Some (b, definitions bs ++ t) = ap (part_told 1) regroup ∙ part_built 1 b (definitions bs ++ t) (omega arith) in
+    let told : part_answer 1 (definitions (b ∷ bs) ++ t) ≡ Some (b, definitions bs ++ t) = ap (part_answer 1) regroup ∙ part_built 1 b (definitions bs ++ t) (omega arith) in
     let (behind, same) = definitions_built bs t in
     let s = definitions (b ∷ bs) ++ t in
     let n : length (b ∷ bs) ≡ length bs + 1 = omega arith in
     (behind_more (length (b ∷ bs)) (length bs) s b (definitions bs ++ t) n told ∙ behind, bodies_more (length (b ∷ bs)) (length bs) s b (definitions bs ++ t) n told ∙ ap (λ r. b ∷ r) same)
 
 -- definitions that are there whole are what was read
-pub definitions_sound : (n : ℕ) (s rest : List ℕ) → AreBytes s → behind_told n s ≡ Some rest → (s ≡ definitions (bodies n s) ++ rest) × All short (bodies n s)
+pub definitions_sound : (n : ℕ) (s rest : List ℕ) → AreBytes s → behind_answer n s ≡ Some rest → (s ≡ definitions (bodies n s) ++ rest) × All short (bodies n s)
 unfolding definitions
 definitions_sound zero s rest h e =
     let none : bodies 0 s ≡ [] = bodies_end s in
     let same : s ≡ rest = same_Some _ _ (sym (behind_end s) ∙ e) in
     (same ∙ ap (λ bs. definitions bs ++ rest) (sym none), All-same short (bodies 0 s) [] none (All-nil short))
-definitions_sound (suc n) s rest h e = cases (definitions_sound n) (part_told 1 s) refl
+definitions_sound (suc n) s rest h e = cases (definitions_sound n) (part_answer 1 s) refl
   where
-    cases : ((t rest : List ℕ) → AreBytes t → behind_told n t ≡ Some rest → (t ≡ definitions (bodies n t) ++ rest) × All short (bodies n t)) → (o : Option (List ℕ × List ℕ)) → part_told 1 s ≡ o → (s ≡ definitions (bodies (suc n) s) ++ rest) × All short (bodies (suc n) s)
+    cases : ((t rest : List ℕ) → AreBytes t → behind_answer n t ≡ Some rest → (t ≡ definitions (bodies n t) ++ rest) × All short (bodies n t)) → (o : Option (List ℕ × List ℕ)) → part_answer 1 s ≡ o → (s ≡ definitions (bodies (suc n) s) ++ rest) × All short (bodies (suc n) s)
     cases sound None is = absurd (none-some _ (sym (behind_missing (suc n) n s (omega arith) is) ∙ e))
     cases sound (Some (b, t)) is =
         let (goes, w) = part_sound 1 (omega arith) s b t h is in
@@ -114,12 +114,12 @@ blanks : ℕ → List (List ℕ)
 blanks n = replicate n []
 
 -- where bytes are missing, so many definitions go on from those that are there
-pub definitions_missing : (n : ℕ) (s : List ℕ) → AreBytes s → behind_told n s ≡ None → (bs : List (List ℕ)) × (more : List ℕ) × (length bs ≡ n) × All short bs × (definitions bs ≡ s ++ more)
+pub definitions_missing : (n : ℕ) (s : List ℕ) → AreBytes s → behind_answer n s ≡ None → (bs : List (List ℕ)) × (more : List ℕ) × (length bs ≡ n) × All short bs × (definitions bs ≡ s ++ more)
 unfolding definitions blanks
 definitions_missing zero s h e = absurd (none-some _ (sym e ∙ behind_end s))
-definitions_missing (suc n) s h e = cases (definitions_missing n) (part_told 1 s) refl
+definitions_missing (suc n) s h e = cases (definitions_missing n) (part_answer 1 s) refl
   where
-    cases : ((t : List ℕ) → AreBytes t → behind_told n t ≡ None → (bs : List (List ℕ)) × (more : List ℕ) × (length bs ≡ n) × All short bs × (definitions bs ≡ t ++ more)) → (o : Option (List ℕ × List ℕ)) → part_told 1 s ≡ o → (bs : List (List ℕ)) × (more : List ℕ) × (length bs ≡ suc n) × All short bs × (definitions bs ≡ s ++ more)
+    cases : ((t : List ℕ) → AreBytes t → behind_answer n t ≡ None → (bs : List (List ℕ)) × (more : List ℕ) × (length bs ≡ n) × All short bs × (definitions bs ≡ t ++ more)) → (o : Option (List ℕ × List ℕ)) → part_answer 1 s ≡ o → (bs : List (List ℕ)) × (more : List ℕ) × (length bs ≡ suc n) × All short bs × (definitions bs ≡ s ++ more)
     cases missing None is =
         let (b, more, w, goes) = part_missing 1 (omega arith) s h is in
         let count : length (b ∷ blanks n) ≡ suc n = omega (arith, length-replicate {A = List ℕ} n []) in
@@ -148,7 +148,7 @@ exact_17 items (n, few, e) = omega arith
 abbrev counted_system : SystemView → List ℕ
 counted_system system = count_of system ∷ system_bytes system
 
-system_built : (k : Kind) (system : SystemView) (t : List ℕ) → kind_of system ≡ byte_of k → WholeSystem system → system_told k (counted_system system ++ t) ≡ Some (system, t)
+system_built : (k : Kind) (system : SystemView) (t : List ℕ) → kind_of system ≡ byte_of k → WholeSystem system → system_answer k (counted_system system ++ t) ≡ Some (system, t)
 system_built Terms (terms bs) t is w =
     let (behind, same) = definitions_built bs t in
     ap (with_behind (length bs) (definitions bs ++ t)) behind ∙ ap (λ r. Some (terms r, t)) same
@@ -161,15 +161,15 @@ abbrev SystemTells : Kind → List ℕ → Option (SystemView × List ℕ) → T
 SystemTells k s (Some (system, t)) = (kind_of system ≡ byte_of k) × WholeSystem system × (s ≡ counted_system system ++ t)
 SystemTells k s None = (system : SystemView) × (more : List ℕ) × (kind_of system ≡ byte_of k) × WholeSystem system × (counted_system system ≡ s ++ more)
 
-system_tells : (k : Kind) (s : List ℕ) → AreBytes s → SystemTells k s (system_told k s)
+system_tells : (k : Kind) (s : List ℕ) → AreBytes s → SystemTells k s (system_answer k s)
 unfolding definitions
 system_tells Terms [] h = (terms [], 0 ∷ [], refl, (omega arith, All-nil short), refl)
-system_tells Terms (count ∷ s) h = cases (behind_told count s) refl
+system_tells Terms (count ∷ s) h = cases (behind_answer count s) refl
   where
     few : count ≤ 255
     few = first_byte count s h
 
-    cases : (o : Option (List ℕ)) → behind_told count s ≡ o → SystemTells Terms (count ∷ s) (with_behind count s o)
+    cases : (o : Option (List ℕ)) → behind_answer count s ≡ o → SystemTells Terms (count ∷ s) (with_behind count s o)
     cases None is =
         let (bs, more, len, all, goes) = definitions_missing count s (All-tail (λ b. b < 256) count s h) is in
         (terms bs, more, refl, (omega (arith, few), all), ap (λ n. n ∷ definitions bs) len ∙ ap (λ u. count ∷ u) goes)
@@ -177,9 +177,9 @@ system_tells Terms (count ∷ s) h = cases (behind_told count s) refl
         let (goes, all) = definitions_sound count s t (All-tail (λ b. b < 256) count s h) is in
         let len : length (bodies count s) ≡ count = all_there count s t is in
         (refl, (omega (arith, few), all), ap (λ u. count ∷ u) goes ∙ ap (λ n. n ∷ (definitions (bodies count s) ++ t)) (sym len))
-system_tells Net s h = cases (part_told 17 s) refl
+system_tells Net s h = cases (part_answer 17 s) refl
   where
-    cases : (o : Option (List ℕ × List ℕ)) → part_told 17 s ≡ o → SystemTells Net s (net_part o)
+    cases : (o : Option (List ℕ × List ℕ)) → part_answer 17 s ≡ o → SystemTells Net s (net_part o)
     cases None is = let (es, more, w, goes) = part_missing 17 (omega arith) s h is in (net es, more, refl, w, goes)
     cases (Some (es, t)) is = let (goes, w) = part_sound 17 (omega arith) s es t h is in (refl, w, goes)
 
@@ -194,13 +194,13 @@ RawLaid ps ns system = Whole 2 ps × Whole 1 ns × WholeSystem system
 abbrev pub laid : List ℕ → List ℕ → SystemView → List ℕ → Layout
 laid ps ns system t = record { pairs = ps; names = ns; system = system; behind = t }
 
-raw_built : (k : Kind) (ps ns : List ℕ) (system : SystemView) (t : List ℕ) → kind_of system ≡ byte_of k → RawLaid ps ns system → layout_told k (raw_bytes ps ns system ++ t) ≡ Some (laid ps ns system t)
+raw_built : (k : Kind) (ps ns : List ℕ) (system : SystemView) (t : List ℕ) → kind_of system ≡ byte_of k → RawLaid ps ns system → layout_answer k (raw_bytes ps ns system ++ t) ≡ Some (laid ps ns system t)
 raw_built k ps ns system t is (p, n, w) =
     let a : raw_bytes ps ns system ++ t ≡ counted 2 ps ++ (counted 1 ns ++ (counted_system system ++ t)) = append_assoc (counted 2 ps) (counted 1 ns ++ counted_system system) t ∙ ap (λ u. counted 2 ps ++ u) (append_assoc (counted 1 ns) (counted_system system) t) in
     let one = part_built 2 ps (counted 1 ns ++ (counted_system system ++ t)) (exact_2 ps p) in
     let two = part_built 1 ns (counted_system system ++ t) (exact_1 ns) in
     let three = system_built k system t is w in
-    ap (layout_told k) a ∙ (ap (with_pairs k) one ∙ (ap (with_names k ps) two ∙ ap (with_system ps ns) three))
+    ap (layout_answer k) a ∙ (ap (with_pairs k) one ∙ (ap (with_names k ps) two ∙ ap (with_system ps ns) three))
 
 -- what a layout tells of the bytes: they are the parts and the rest, or some parts go on from them
 abbrev Tells : Kind → List ℕ → Option Layout → Type 0
@@ -233,26 +233,26 @@ tells_system k ps ns s p n (Some (system, t)) (is, w, goes) =
     let regroup : counted 2 ps ++ (counted 1 ns ++ (counted_system system ++ t)) ≡ (counted 2 ps ++ (counted 1 ns ++ counted_system system)) ++ t = simp append_assoc in
     (is, (p, n, w), ap (λ u. counted 2 ps ++ (counted 1 ns ++ u)) goes ∙ regroup)
 
-tells_names : (k : Kind) (ps s : List ℕ) → AreBytes s → Whole 2 ps → (o : Option (List ℕ × List ℕ)) → part_told 1 s ≡ o → Tells k (counted 2 ps ++ s) (with_names k ps o)
+tells_names : (k : Kind) (ps s : List ℕ) → AreBytes s → Whole 2 ps → (o : Option (List ℕ × List ℕ)) → part_answer 1 s ≡ o → Tells k (counted 2 ps ++ s) (with_names k ps o)
 tells_names k ps s h p None is =
     let (ns, more, n, goes) = part_missing 1 (omega arith) s h is in
     let regroup : counted 2 ps ++ ((s ++ more) ++ counted_system (empty k)) ≡ (counted 2 ps ++ s) ++ (more ++ counted_system (empty k)) = simp append_assoc in
     (ps, ns, empty k, more ++ counted_system (empty k), empty_kind k, (p, n, empty_whole k), ap (λ t. counted 2 ps ++ (t ++ counted_system (empty k))) goes ∙ regroup)
 tells_names k ps s h p (Some (ns, t)) is =
     let (goes, n) = part_sound 1 (omega arith) s ns t h is in
-    subst (λ u. Tells k (counted 2 ps ++ u) (with_system ps ns (system_told k t))) (sym goes) (tells_system k ps ns t p n (system_told k t) (system_tells k t (bytes_behind s (counted 1 ns) t goes h)))
+    subst (λ u. Tells k (counted 2 ps ++ u) (with_system ps ns (system_answer k t))) (sym goes) (tells_system k ps ns t p n (system_answer k t) (system_tells k t (bytes_behind s (counted 1 ns) t goes h)))
 
-tells_pairs : (k : Kind) (s : List ℕ) → AreBytes s → (o : Option (List ℕ × List ℕ)) → part_told 2 s ≡ o → Tells k s (with_pairs k o)
+tells_pairs : (k : Kind) (s : List ℕ) → AreBytes s → (o : Option (List ℕ × List ℕ)) → part_answer 2 s ≡ o → Tells k s (with_pairs k o)
 tells_pairs k s h None is =
     let (ps, more, p, goes) = part_missing 2 (omega arith) s h is in
     let rest : List ℕ = counted 1 [] ++ counted_system (empty k) in
     (ps, [], empty k, more ++ rest, empty_kind k, (p, no_items 1, empty_whole k), ap (λ t. t ++ rest) goes ∙ append_assoc s more rest)
 tells_pairs k s h (Some (ps, t)) is =
     let (goes, p) = part_sound 2 (omega arith) s ps t h is in
-    subst (λ u. Tells k u (with_names k ps (part_told 1 t))) (sym goes) (tells_names k ps t (bytes_behind s (counted 2 ps) t goes h) p (part_told 1 t) refl)
+    subst (λ u. Tells k u (with_names k ps (part_answer 1 t))) (sym goes) (tells_names k ps t (bytes_behind s (counted 2 ps) t goes h) p (part_answer 1 t) refl)
 
-layout_tells : (k : Kind) (s : List ℕ) → AreBytes s → Tells k s (layout_told k s)
-layout_tells k s h = tells_pairs k s h (part_told 2 s) refl
+layout_tells : (k : Kind) (s : List ℕ) → AreBytes s → Tells k s (layout_answer k s)
+layout_tells k s h = tells_pairs k s h (part_answer 2 s) refl
 
 -- pairs and their bytes
 
@@ -300,16 +300,16 @@ in_pairs k s None (rs, ns, system, more, is, (p, n, w), goes) =
     let (ps, same, few) = some_pairs rs p in
     (ps, ns, system, more, is, (few, few_names ns n, w), raw_is ps ns system ∙ ap (λ t. raw_bytes t ns system) (sym same) ∙ goes)
 
-pub setup_tells : (k : Kind) (s : List ℕ) → AreBytes s → SetupTells k s (layout_told k s)
-setup_tells k s h = in_pairs k s (layout_told k s) (layout_tells k s h)
+pub setup_tells : (k : Kind) (s : List ℕ) → AreBytes s → SetupTells k s (layout_answer k s)
+setup_tells k s h = in_pairs k s (layout_answer k s) (layout_tells k s h)
 
-pub layout_built : (k : Kind) (ps : List Pair) (ns : List ℕ) (system : SystemView) (t : List ℕ) → kind_of system ≡ byte_of k → LaidOut (setup ps ns system) → layout_told k (setup_bytes ps ns system ++ t) ≡ Some (laid (pair_bytes ps) ns system t)
-layout_built k ps ns system t is l = ap (λ u. layout_told k (u ++ t)) (raw_is ps ns system) ∙ raw_built k (pair_bytes ps) ns system t is (raw_laid ps ns system l)
+pub layout_built : (k : Kind) (ps : List Pair) (ns : List ℕ) (system : SystemView) (t : List ℕ) → kind_of system ≡ byte_of k → LaidOut (setup ps ns system) → layout_answer k (setup_bytes ps ns system ++ t) ≡ Some (laid (pair_bytes ps) ns system t)
+layout_built k ps ns system t is l = ap (λ u. layout_answer k (u ++ t)) (raw_is ps ns system) ∙ raw_built k (pair_bytes ps) ns system t is (raw_laid ps ns system l)
 
 -- the bytes of a setup that is laid out have a layout, with nothing behind
-has_layout : (k : Kind) (f : FrameView) (s : List ℕ) → LaidOut f → bytes_of f ≡ 0xA0 ∷ byte_of k ∷ s → (l : Layout) × (layout_told k s ≡ Some l) × (l.behind ≡ [])
+has_layout : (k : Kind) (f : FrameView) (s : List ℕ) → LaidOut f → bytes_of f ≡ 0xA0 ∷ byte_of k ∷ s → (l : Layout) × (layout_answer k s ≡ Some l) × (l.behind ≡ [])
 has_layout k (setup ps ns system) s l e =
-    (laid (pair_bytes ps) ns system [], ap (layout_told k) (sym (ap (drop 2) e) ∙ sym (append-nil (setup_bytes ps ns system))) ∙ layout_built k ps ns system [] (ap (λ t. get_or t 1 0) e) l, refl)
+    (laid (pair_bytes ps) ns system [], ap (layout_answer k) (sym (ap (drop 2) e) ∙ sym (append-nil (setup_bytes ps ns system))) ∙ layout_built k ps ns system [] (ap (λ t. get_or t 1 0) e) l, refl)
 has_layout k (open_sheet sheet state) s l e = absurd (omega (arith, ap (λ t. get_or t 0 0) e))
 has_layout k (add sheet step) s l e = absurd (omega (arith, ap (λ t. get_or t 0 0) e))
 has_layout k (swap sheet place) s l e = absurd (omega (arith, ap (λ t. get_or t 0 0) e))
@@ -320,7 +320,7 @@ has_layout k (reopen sheet) s l e = absurd (omega (arith, ap (λ t. get_or t 0 0
 has_layout k (print sheet) s l e = absurd (omega (arith, ap (λ t. get_or t 0 0) e))
 has_layout k (look sheet count) s l e = absurd (omega (arith, ap (λ t. get_or t 0 0) e))
 
-pub no_layout : (k : Kind) (f : FrameView) (s : List ℕ) → LaidOut f → bytes_of f ≡ 0xA0 ∷ byte_of k ∷ s → layout_told k s ≡ None → ⊥
+pub no_layout : (k : Kind) (f : FrameView) (s : List ℕ) → LaidOut f → bytes_of f ≡ 0xA0 ∷ byte_of k ∷ s → layout_answer k s ≡ None → ⊥
 no_layout k f s l e none =
     let (found, is, empty) = has_layout k f s l e in
     absurd (none-some _ (sym none ∙ is))

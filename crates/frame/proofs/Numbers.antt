@@ -3,7 +3,7 @@ use Rattle.std.proofs.Common.{◌≡◌, ℕ, ◌+◌, ◌-◌, ◌*◌, ◌<◌
 use Rattle.std.specs.Int.{from_be_bytes}
 use Rattle.std.proofs.lemmas.List.{append_assoc, length-append, length-drop, length-take-le, take_at, drop_at, take_all, take-append-drop}
 use Rattle.std.proofs.lemmas.Bool.{le-leb, lt-leb, cases_lt, cond-true}
-use Rattle.frame.specs.Events.{big_endian, event_of, event_told, NextEvent}
+use Rattle.frame.specs.Events.{big_endian, event_of, event_answer, NextEvent}
 
 -- eight bytes spell what they are worth
 spelled : (bs : List ℕ) → length bs ≡ 8 → from_be_bytes w64 bs ≡ big_endian bs
@@ -19,7 +19,7 @@ spelled (a ∷ b ∷ c ∷ d ∷ e ∷ f ∷ g ∷ h ∷ []) long = omega arith
 spelled (a ∷ b ∷ c ∷ d ∷ e ∷ f ∷ g ∷ h ∷ i ∷ s) long = absurd (omega arith)
 
 -- an action and two sets, before other bytes
-event_first : (action : ℕ) (b a r : List ℕ) → length b ≡ 8 → length a ≡ 8 → event_told (action ∷ (b ++ (a ++ r))) 0 ≡ Some (record { action = action; before = from_be_bytes w64 b; after = from_be_bytes w64 a })
+event_first : (action : ℕ) (b a r : List ℕ) → length b ≡ 8 → length a ≡ 8 → event_answer (action ∷ (b ++ (a ++ r))) 0 ≡ Some (record { action = action; before = from_be_bytes w64 b; after = from_be_bytes w64 a })
 event_first action b a r long_b long_a =
     let both : length (b ++ a) ≡ 16 = omega (arith, length-append b a) in
     let front : take 16 (b ++ (a ++ r)) ≡ b ++ a = ap (take 16) (sym (append_assoc b a r)) ∙ take_at (b ++ a) r 16 both in
@@ -36,11 +36,11 @@ event_taken bytes behind b left a rest action before after whole is_b is_left lo
     let all : b ++ (a ++ rest) ≡ behind = rw (later, is_b, is_left) (take-append-drop 8 behind) in
     let same : bytes ≡ action ∷ (b ++ (a ++ rest)) = whole ∙ ap (λ s. action ∷ s) (sym all) in
     let both : length (b ++ a) ≡ 16 = omega (arith, length-append b a) in
-    let told = ap (λ s. event_told s 0) same ∙ event_first action b a rest long_b long_a in
+    let told = ap (λ s. event_answer s 0) same ∙ event_first action b a rest long_b long_a in
     (told ∙ rw (told_b, told_a) refl, sym (ap (drop 17) same ∙ ap (drop 16) (sym (append_assoc b a rest)) ∙ drop_at (b ++ a) rest 16 both))
 
 -- the first event behind others is the next
-pub event_behind : (bytes : List ℕ) (i : ℕ) → event_told (drop (17 * i) bytes) 0 ≡ event_told bytes i
+pub event_behind : (bytes : List ℕ) (i : ℕ) → event_answer (drop (17 * i) bytes) 0 ≡ event_answer bytes i
 event_behind bytes i =
     let rest : length (drop (17 * i) bytes) ≡ length bytes - 17 * i = length-drop (17 * i) bytes in
     let there : leb 17 (length (drop (17 * i) bytes)) ≡ leb (17 * i + 17) (length bytes) =

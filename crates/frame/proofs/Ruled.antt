@@ -17,7 +17,7 @@ use Rattle.actions.proofs.Paired.{sound_from, sound_to, sound_once, sound_rest, 
 use Rattle.frame.specs.declared.fault.FrameFault.{FrameFault}
 use Rattle.frame.specs.declared.fault.FrameFault.TheVariants.{Malformed, BadSetup}
 use Rattle.frame.specs.Frames.{PairsAllowed, NamesAllowed, pair_bytes, pair_limit, name_limit, pair_place, names_place, name_place}
-use Rattle.frame.specs.Rules.{fault_offset, pairs_added, pairs_told, names_added, names_told}
+use Rattle.frame.specs.Rules.{fault_offset, pairs_added, pairs_answer, names_added, names_answer}
 use Rattle.frame.specs.Format.{Replaces, PairsBadAt, NamesBadAt}
 use Rattle.frame.specs.Format.PairsBadAt.{from_no_name, from_twice, to_no_name}
 use Rattle.frame.specs.Format.NamesBadAt.{no_name}
@@ -95,7 +95,7 @@ PairsTold ps (Ok qs) = (qs ≡ ps) × PairsAllowed ps
 PairsTold ps (Err (Malformed place)) = ⊥
 PairsTold ps (Err (BadSetup place)) = ((pair_limit < length ps) × (place ≡ 2)) ⊎ ((length ps ≤ pair_limit) × PairsBadAt ps place)
 
-pub told_pairs : (ps : List Pair) → PairsTold ps (pairs_told (pair_bytes ps))
+pub told_pairs : (ps : List Pair) → PairsTold ps (pairs_answer (pair_bytes ps))
 told_pairs ps =
     cond_both (leb (length (pair_bytes ps)) (2 * pair_limit)) _ _ (PairsTold ps)
     (λ is. let few : length ps ≤ pair_limit = omega (arith, leb-true _ _ is, length-pair_bytes ps) in said (pairs_added [] 3 (pair_bytes ps)) few (pairs_say ps [] refl few))
@@ -149,7 +149,7 @@ NamesTold pairs ns (Ok ms) = (ms ≡ ns) × NamesAllowed ns
 NamesTold pairs ns (Err (Malformed place)) = ⊥
 NamesTold pairs ns (Err (BadSetup place)) = ((name_limit < length ns) × (place ≡ names_place pairs)) ⊎ ((length ns ≤ name_limit) × NamesBadAt pairs ns place)
 
-pub told_names : (pairs : List Pair) (ns : List ℕ) → NamesTold pairs ns (names_told (names_place pairs) ns)
+pub told_names : (pairs : List Pair) (ns : List ℕ) → NamesTold pairs ns (names_answer (names_place pairs) ns)
 told_names pairs ns =
     cond_both (leb (length ns) name_limit) _ _ (NamesTold pairs ns)
     (λ is. said (names_added [] (names_place pairs + 1) ns) (leb-true _ _ is) (subst (λ k. NamesSay pairs ns (names_added [] k ns)) first (names_say pairs ns [] refl (leb-true _ _ is))))
@@ -205,8 +205,8 @@ pairs_sound ps place (from_no_name front p back before no_from) sound = let yes 
 pairs_sound ps place (from_twice front p back before from twice) sound = (sound_in front p back sound).2 twice
 pairs_sound ps place (to_no_name front p back before from new no_to) sound = let yes = (sound_in front p back sound).1 in cc
 
-pub pairs_kept : (ps : List Pair) → PairsAllowed ps → pairs_told (pair_bytes ps) ≡ Ok ps
-pairs_kept ps (few, sound) = kept (pairs_told (pair_bytes ps)) (told_pairs ps)
+pub pairs_kept : (ps : List Pair) → PairsAllowed ps → pairs_answer (pair_bytes ps) ≡ Ok ps
+pairs_kept ps (few, sound) = kept (pairs_answer (pair_bytes ps)) (told_pairs ps)
   where
     kept : (r : Result (List Pair) FrameFault) → PairsTold ps r → r ≡ Ok ps
     kept (Ok qs) (same, allowed) = ap Ok same
@@ -221,8 +221,8 @@ name_in (m ∷ front) n back h = name_in front n back (and_parts (is_name m) (al
 names_sound : (pairs : List Pair) (ns : List ℕ) (place : ℕ) → NamesBadAt pairs ns place → all_names ns ≡ true → ⊥
 names_sound pairs ns place (no_name front n back before not_one) h = let yes = name_in front n back h in cc
 
-pub names_kept : (pairs : List Pair) (ns : List ℕ) → NamesAllowed ns → names_told (names_place pairs) ns ≡ Ok ns
-names_kept pairs ns (few, sound) = kept (names_told (names_place pairs) ns) (told_names pairs ns)
+pub names_kept : (pairs : List Pair) (ns : List ℕ) → NamesAllowed ns → names_answer (names_place pairs) ns ≡ Ok ns
+names_kept pairs ns (few, sound) = kept (names_answer (names_place pairs) ns) (told_names pairs ns)
   where
     kept : (r : Result (List ℕ) FrameFault) → NamesTold pairs ns r → r ≡ Ok ns
     kept (Ok ms) (same, allowed) = ap Ok same

@@ -6,10 +6,10 @@ use Rattle.actions.specs.declared.pairs.Pair.{Pair}
 use Rattle.actions.specs.declared.pairs.PairFault.{PairFault}
 use Rattle.actions.specs.declared.names.NameFault.{NameFault}
 use Rattle.actions.specs.Pairs.{pair_fault}
-use Rattle.actions.specs.Names.{name_fault, name_told, names_after}
+use Rattle.actions.specs.Names.{name_fault, name_answer, names_after}
 use Rattle.frame.specs.declared.fault.FrameFault.{FrameFault}
 use Rattle.frame.specs.declared.fault.FrameFault.TheVariants.{BadSetup}
-use Rattle.frame.specs.Rules.{fault_offset, pair_added, pairs_added, pairs_told, names_added, names_told}
+use Rattle.frame.specs.Rules.{fault_offset, pair_added, pairs_added, pairs_answer, names_added, names_answer}
 
 -- pairs
 
@@ -38,7 +38,7 @@ pairs_more ps qs place s long is = pairs_step ps place s (Ok qs) long is ∙ ap 
 pub pairs_bad : (ps : List Pair) (place : ℕ) (s : List ℕ) (f : FrameFault) → 2 ≤ length s → Err f ≡ pair_added ps (first_pair s) place → pairs_added ps place s ≡ Err f
 pairs_bad ps place s f long is = pairs_step ps place s (Err f) long is
 
-pub pairs_few : (s : List ℕ) → length s ≤ 16 → pairs_told s ≡ pairs_added [] 3 s
+pub pairs_few : (s : List ℕ) → length s ≤ 16 → pairs_answer s ≡ pairs_added [] 3 s
 pairs_few s h = cond-true (leb (length s) 16) (pairs_added [] 3 s) (Err (BadSetup 2)) (le-leb _ _ h)
 
 -- names
@@ -54,22 +54,22 @@ unfolding names_added
 names_step ns place s i o there is =
     ap (names_added ns place) (drop_more s i 0 there) ∙ ap (λ (o : Option NameFault). elim o as (λ _. Result (List ℕ) FrameFault) [ None ↦ names_added (ns ++ get_or s i 0 ∷ []) (place + 1) (drop (i + 1) s) | Some f ↦ Err (BadSetup place) ]) is
 
-pub names_more : (ns : List ℕ) (place : ℕ) (s : List ℕ) (i : ℕ) → i < length s → is_err (name_told (name_fault ns (get_or s i 0))) ≡ false
+pub names_more : (ns : List ℕ) (place : ℕ) (s : List ℕ) (i : ℕ) → i < length s → is_err (name_answer (name_fault ns (get_or s i 0))) ≡ false
     → names_added ns place (drop i s) ≡ names_added (names_after (name_fault ns (get_or s i 0)) ns (get_or s i 0)) (place + 1) (drop (i + 1) s)
 names_more ns place s i there fine = cases (name_fault ns (get_or s i 0)) refl fine
   where
-    cases : (o : Option NameFault) → name_fault ns (get_or s i 0) ≡ o → is_err (name_told o) ≡ false → names_added ns place (drop i s) ≡ names_added (names_after o ns (get_or s i 0)) (place + 1) (drop (i + 1) s)
+    cases : (o : Option NameFault) → name_fault ns (get_or s i 0) ≡ o → is_err (name_answer o) ≡ false → names_added ns place (drop i s) ≡ names_added (names_after o ns (get_or s i 0)) (place + 1) (drop (i + 1) s)
     cases None is h = names_step ns place s i None there is
     cases (Some f) is h = cc
 
-pub names_bad : (ns : List ℕ) (place : ℕ) (s : List ℕ) (i : ℕ) → i < length s → is_err (name_told (name_fault ns (get_or s i 0))) ≡ true → names_added ns place (drop i s) ≡ Err (BadSetup place)
+pub names_bad : (ns : List ℕ) (place : ℕ) (s : List ℕ) (i : ℕ) → i < length s → is_err (name_answer (name_fault ns (get_or s i 0))) ≡ true → names_added ns place (drop i s) ≡ Err (BadSetup place)
 names_bad ns place s i there bad = cases (name_fault ns (get_or s i 0)) refl bad
   where
-    cases : (o : Option NameFault) → name_fault ns (get_or s i 0) ≡ o → is_err (name_told o) ≡ true → names_added ns place (drop i s) ≡ Err (BadSetup place)
+    cases : (o : Option NameFault) → name_fault ns (get_or s i 0) ≡ o → is_err (name_answer o) ≡ true → names_added ns place (drop i s) ≡ Err (BadSetup place)
     cases None is h = cc
     cases (Some f) is h = names_step ns place s i (Some f) there is
 
-pub names_few : (place : ℕ) (s : List ℕ) → length s ≤ 8 → names_told place s ≡ names_added [] (place + 1) s
+pub names_few : (place : ℕ) (s : List ℕ) → length s ≤ 8 → names_answer place s ≡ names_added [] (place + 1) s
 names_few place s h = cond-true (leb (length s) 8) (names_added [] (place + 1) s) (Err (BadSetup place)) (le-leb _ _ h)
 
 -- how many were taken
@@ -86,7 +86,7 @@ pairs_grown (a ∷ b ∷ s) ps qs place e = cases (pairs_grown s) (pair_fault ps
     cases grown None h = omega (arith, grown (ps ++ record { from = a; to = b } ∷ []) qs (place + 2) h, length-append ps (record { from = a; to = b } ∷ []))
     cases grown (Some f) h = cc
 
-pub pairs_length : (s : List ℕ) (qs : List Pair) → Ok qs ≡ pairs_told s → length qs ≡ length s / 2
+pub pairs_length : (s : List ℕ) (qs : List Pair) → Ok qs ≡ pairs_answer s → length qs ≡ length s / 2
 pairs_length s qs e = cases (leb (length s) 16) refl (sym e)
   where
     cases : (b : Bool) → leb (length s) 16 ≡ b → cond b (pairs_added [] 3 s) (Err (BadSetup 2)) ≡ Ok qs → length qs ≡ length s / 2
@@ -104,7 +104,7 @@ names_grown (n ∷ s) ns ms place e = cases (names_grown s) (name_fault ns n) e
     cases grown None h = omega (arith, grown (ns ++ n ∷ []) ms (place + 1) h, length-append ns (n ∷ []))
     cases grown (Some f) h = cc
 
-pub names_length : (place : ℕ) (s ms : List ℕ) → Ok ms ≡ names_told place s → length ms ≡ length s
+pub names_length : (place : ℕ) (s ms : List ℕ) → Ok ms ≡ names_answer place s → length ms ≡ length s
 names_length place s ms e = cases (leb (length s) 8) refl (sym e)
   where
     cases : (b : Bool) → leb (length s) 8 ≡ b → cond b (names_added [] (place + 1) s) (Err (BadSetup place)) ≡ Ok ms → length ms ≡ length s

@@ -15,10 +15,10 @@ abbrev pub event_of : List ℕ → Event
 event_of bs = record { action = slice_index bs 0; before = big_endian (take 8 (drop 1 bs)); after = big_endian (take 8 (drop 9 bs)) }
 
 -- the event at an index of those that stand one behind the other
-abbrev pub event_told : List ℕ → ℕ → Option Event
-event_told events i = cond (nat_le (17 * i + 17) (length events)) (Some (event_of (take 17 (drop (17 * i) events)))) None
+abbrev pub event_answer : List ℕ → ℕ → Option Event
+event_answer events i = cond (nat_le (17 * i + 17) (length events)) (Some (event_of (take 17 (drop (17 * i) events)))) None
 
 -- The first of events that stand one behind the other, and what stands behind it; or none, and all bytes are left.
 abbrev pub NextEvent : List ℕ → Option Event → List ℕ → Type 0
-NextEvent events None left = (event_told events 0 ≡ None) × (left ≡ events)
-NextEvent events (Some e) left = (event_told events 0 ≡ Some e) × (left ≡ drop 17 events)
+NextEvent events None left = (event_answer events 0 ≡ None) × (left ≡ events)
+NextEvent events (Some e) left = (event_answer events 0 ≡ Some e) × (left ≡ drop 17 events)

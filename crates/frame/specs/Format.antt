@@ -7,7 +7,7 @@ use Rattle.frame.specs.declared.fault.FrameFault.TheVariants.{Malformed, BadSetu
 use Rattle.frame.specs.Frames.{SystemView, FrameView, pair_bytes, count_of, system_bytes, bytes_of, LaidOut, PairsAllowed, NamesAllowed, Many, Accepted, Begins, sound_pairs, all_names, pair_limit, name_limit, frame_limit, pair_place, names_place, name_place, count_place, body_place, event_place}
 use Rattle.frame.specs.Frames.SystemView.{terms, net}
 use Rattle.frame.specs.Frames.FrameView.{setup}
-use Rattle.frame.specs.Reading.{frame_told}
+use Rattle.frame.specs.Reading.{frame_answer}
 
 -- A frame is a string of bytes.
 abbrev pub AreBytes : List ℕ → Type 0
@@ -15,7 +15,7 @@ AreBytes s = All (λ b. b < 256) s
 
 -- A string is read as a frame exactly where it is the bytes of that frame, and the frame is accepted.
 abbrev pub ReadsFrames : Type 0
-ReadsFrames = (s : List ℕ) (f : FrameView) → AreBytes s → (frame_told s ≡ Ok f) ↔ ((bytes_of f ≡ s) × Accepted f)
+ReadsFrames = (s : List ℕ) (f : FrameView) → AreBytes s → (frame_answer s ≡ Ok f) ↔ ((bytes_of f ≡ s) × Accepted f)
 
 -- A string within the limit is malformed at the length of its longest beginning that begins a frame, and is itself none.
 pub record MalformedAt (s : List ℕ) (place : ℕ) : Type 0 where
@@ -25,7 +25,7 @@ pub record MalformedAt (s : List ℕ) (place : ℕ) : Type 0 where
   pub no_frame : (f : FrameView) → LaidOut f → bytes_of f ≢ s
 
 abbrev pub PlacesMalformed : Type 0
-PlacesMalformed = (s : List ℕ) (place : ℕ) → AreBytes s → length s ≤ frame_limit → frame_told s ≡ Err (Malformed place) → MalformedAt s place
+PlacesMalformed = (s : List ℕ) (place : ℕ) → AreBytes s → length s ≤ frame_limit → frame_answer s ≡ Err (Malformed place) → MalformedAt s place
 
 -- A string is the bytes of a setup that is laid out.
 abbrev pub IsSetup : List ℕ → List Pair → List ℕ → SystemView → Type 0
@@ -55,7 +55,7 @@ pub data BadAt : List ℕ → ℕ → Type 0 where
   many_parts : {s : List ℕ} (pairs : List Pair) (names : List ℕ) (system : SystemView) → IsSetup s pairs names system → PairsAllowed pairs → NamesAllowed names → Many system → BadAt s (count_place pairs names)
 
 abbrev pub PlacesBadSetups : Type 0
-PlacesBadSetups = (s : List ℕ) (place : ℕ) → AreBytes s → frame_told s ≡ Err (BadSetup place) → BadAt s place
+PlacesBadSetups = (s : List ℕ) (place : ℕ) → AreBytes s → frame_answer s ≡ Err (BadSetup place) → BadAt s place
 
 -- In the frame of a setup each part stands at its place, with what follows it behind it.
 pub record PlacesParts : Type 0 where
@@ -66,8 +66,8 @@ pub record PlacesParts : Type 0 where
 
 -- In a setup that is read, each body stands at its place in the frame.
 abbrev pub PlacesBodies : Type 0
-PlacesBodies = (s : List ℕ) (pairs : List Pair) (names : List ℕ) (front : List (List ℕ)) (body : List ℕ) (back : List (List ℕ)) → AreBytes s → frame_told s ≡ Ok (setup pairs names (terms (front ++ body ∷ back))) → take (length body) (drop (body_place pairs names front) s) ≡ body
+PlacesBodies = (s : List ℕ) (pairs : List Pair) (names : List ℕ) (front : List (List ℕ)) (body : List ℕ) (back : List (List ℕ)) → AreBytes s → frame_answer s ≡ Ok (setup pairs names (terms (front ++ body ∷ back))) → take (length body) (drop (body_place pairs names front) s) ≡ body
 
 -- In a setup that is read, each event stands at its place in the frame, with those that follow it behind it.
 abbrev pub PlacesEvents : Type 0
-PlacesEvents = (s : List ℕ) (pairs : List Pair) (names events : List ℕ) (i : ℕ) → AreBytes s → frame_told s ≡ Ok (setup pairs names (net events)) → drop (event_place pairs names i) s ≡ drop (17 * i) events
+PlacesEvents = (s : List ℕ) (pairs : List Pair) (names events : List ℕ) (i : ℕ) → AreBytes s → frame_answer s ≡ Ok (setup pairs names (net events)) → drop (event_place pairs names i) s ≡ drop (17 * i) events

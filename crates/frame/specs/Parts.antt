@@ -2,16 +2,16 @@
 use Rattle.std.specs.Prelude.{ℕ, zero, suc, ◌*◌, cond, List, [], ◌∷◌, length, take, drop, Some, None, Option, nat_le}
 
 -- counted items of a size, and what stands behind them; none where bytes are missing
-abbrev pub part_told : ℕ → List ℕ → Option (List ℕ × List ℕ)
-part_told size [] = None
-part_told size (count ∷ s) = cond (nat_le (count * size) (length s)) (Some (take (count * size) s, drop (count * size) s)) None
+abbrev pub part_answer : ℕ → List ℕ → Option (List ℕ × List ℕ)
+part_answer size [] = None
+part_answer size (count ∷ s) = cond (nat_le (count * size) (length s)) (Some (take (count * size) s, drop (count * size) s)) None
 
 -- what stands behind so many counted bodies; none where bytes are missing
-unfoldable pub behind_told : ℕ → List ℕ → Option (List ℕ)
-behind_told zero s = Some s
-behind_told (suc n) s = elim (part_told 1 s) [ None ↦ None | Some (body, rest) ↦ behind_told n rest ]
+unfoldable pub behind_answer : ℕ → List ℕ → Option (List ℕ)
+behind_answer zero s = Some s
+behind_answer (suc n) s = elim (part_answer 1 s) [ None ↦ None | Some (body, rest) ↦ behind_answer n rest ]
 
 -- so many counted bodies, or those before the first of which bytes are missing
 unfoldable pub bodies : ℕ → List ℕ → List (List ℕ)
 bodies zero s = []
-bodies (suc n) s = elim (part_told 1 s) [ None ↦ [] | Some (body, rest) ↦ body ∷ bodies n rest ]
+bodies (suc n) s = elim (part_answer 1 s) [ None ↦ [] | Some (body, rest) ↦ body ∷ bodies n rest ]

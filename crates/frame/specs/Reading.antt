@@ -12,11 +12,11 @@ use Rattle.frame.specs.declared.layout.Kind.{Kind}
 use Rattle.frame.specs.declared.layout.Kind.TheVariants.{Terms, Net}
 use Rattle.frame.specs.declared.frame.Frame.{Frame}
 use Rattle.frame.specs.declared.frame.Frame.TheVariants as variant
-use Rattle.frame.specs.Parts.{part_told, behind_told, bodies}
+use Rattle.frame.specs.Parts.{part_answer, behind_answer, bodies}
 use Rattle.frame.specs.Frames.{SystemView, FrameView, frame_limit}
 use Rattle.frame.specs.Frames.SystemView.{terms, net}
 use Rattle.frame.specs.Frames.FrameView.{setup, open_sheet, add, swap, withdraw, join, release, reopen, print, look}
-use Rattle.frame.specs.Rules.{rules_told}
+use Rattle.frame.specs.Rules.{rules_answer}
 pub use Rattle.frame.specs.Systems.{bodies_of, system_view}
 
 -- what a frame that was read holds
@@ -44,18 +44,18 @@ abbrev pub with_behind : ℕ → List ℕ → Option (List ℕ) → Option (Syst
 with_behind count s None = None
 with_behind count s (Some behind) = Some (terms (bodies count s), behind)
 
-abbrev pub terms_told : List ℕ → Option (SystemView × List ℕ)
-terms_told [] = None
-terms_told (count ∷ s) = with_behind count s (behind_told count s)
+abbrev pub terms_answer : List ℕ → Option (SystemView × List ℕ)
+terms_answer [] = None
+terms_answer (count ∷ s) = with_behind count s (behind_answer count s)
 
 -- counted events, and what stands behind them
 abbrev pub net_part : Option (List ℕ × List ℕ) → Option (SystemView × List ℕ)
 net_part None = None
 net_part (Some (events, behind)) = Some (net events, behind)
 
-abbrev pub system_told : Kind → List ℕ → Option (SystemView × List ℕ)
-system_told Terms s = terms_told s
-system_told Net s = net_part (part_told 17 s)
+abbrev pub system_answer : Kind → List ℕ → Option (SystemView × List ℕ)
+system_answer Terms s = terms_answer s
+system_answer Net s = net_part (part_answer 17 s)
 
 abbrev pub definitions_view : Option (Definitions × Bor (List ℕ)) → Option (SystemView × List ℕ)
 definitions_view None = None
@@ -78,66 +78,66 @@ with_system pairs names (Some (system, s)) = Some (record { pairs = pairs; names
 
 abbrev pub with_names : Kind → List ℕ → Option (List ℕ × List ℕ) → Option Layout
 with_names kind pairs None = None
-with_names kind pairs (Some (names, s)) = with_system pairs names (system_told kind s)
+with_names kind pairs (Some (names, s)) = with_system pairs names (system_answer kind s)
 
 abbrev pub with_pairs : Kind → Option (List ℕ × List ℕ) → Option Layout
 with_pairs kind None = None
-with_pairs kind (Some (pairs, s)) = with_names kind pairs (part_told 1 s)
+with_pairs kind (Some (pairs, s)) = with_names kind pairs (part_answer 1 s)
 
-abbrev pub layout_told : Kind → List ℕ → Option Layout
-layout_told kind s = with_pairs kind (part_told 2 s)
+abbrev pub layout_answer : Kind → List ℕ → Option Layout
+layout_answer kind s = with_pairs kind (part_answer 2 s)
 
 abbrev pub layout_view : Option (Parts × Bor (List ℕ)) → Option Layout
 layout_view None = None
 layout_view (Some (s, behind)) = Some (record { pairs = s.pairs.now; names = s.names.now; system = system_view s.system; behind = behind.now })
 
 -- missing bytes are told behind the end, and extra ones where they begin
-abbrev pub parts_told : ℕ → Option Layout → Result FrameView FrameFault
-parts_told end None = Err (Malformed end)
-parts_told end (Some l) = cond (length l.behind == 0) (rules_told l.pairs l.names l.system) (Err (Malformed (end - length l.behind)))
+abbrev pub parts_answer : ℕ → Option Layout → Result FrameView FrameFault
+parts_answer end None = Err (Malformed end)
+parts_answer end (Some l) = cond (length l.behind == 0) (rules_answer l.pairs l.names l.system) (Err (Malformed (end - length l.behind)))
 
 -- what stands behind the first byte of a setup
-abbrev pub setup_told : List ℕ → Result FrameView FrameFault
-setup_told [] = Err (Malformed 1)
-setup_told (kind ∷ s) =
-    cond (kind == 1) (parts_told (length s + 2) (layout_told Terms s))
-    (cond (kind == 2) (parts_told (length s + 2) (layout_told Net s))
+abbrev pub setup_answer : List ℕ → Result FrameView FrameFault
+setup_answer [] = Err (Malformed 1)
+setup_answer (kind ∷ s) =
+    cond (kind == 1) (parts_answer (length s + 2) (layout_answer Terms s))
+    (cond (kind == 2) (parts_answer (length s + 2) (layout_answer Net s))
     (Err (BadSetup 1)))
 
 -- a sheet and the rest of the frame; a sheet alone; a sheet and one byte more
-abbrev pub sheet_rest_told : (ℕ → List ℕ → FrameView) → List ℕ → Result FrameView FrameFault
-sheet_rest_told call [] = Err (Malformed 1)
-sheet_rest_told call (sheet ∷ rest) = Ok (call sheet rest)
+abbrev pub sheet_rest_answer : (ℕ → List ℕ → FrameView) → List ℕ → Result FrameView FrameFault
+sheet_rest_answer call [] = Err (Malformed 1)
+sheet_rest_answer call (sheet ∷ rest) = Ok (call sheet rest)
 
-abbrev pub sheet_told : {A : Type 0} → (ℕ → A) → List ℕ → Result A FrameFault
-sheet_told call [] = Err (Malformed 1)
-sheet_told call (sheet ∷ []) = Ok (call sheet)
-sheet_told call (sheet ∷ extra ∷ rest) = Err (Malformed 2)
+abbrev pub sheet_answer : {A : Type 0} → (ℕ → A) → List ℕ → Result A FrameFault
+sheet_answer call [] = Err (Malformed 1)
+sheet_answer call (sheet ∷ []) = Ok (call sheet)
+sheet_answer call (sheet ∷ extra ∷ rest) = Err (Malformed 2)
 
-abbrev pub sheet_byte_told : {A : Type 0} → (ℕ → ℕ → A) → List ℕ → Result A FrameFault
-sheet_byte_told call [] = Err (Malformed 1)
-sheet_byte_told call (sheet ∷ []) = Err (Malformed 2)
-sheet_byte_told call (sheet ∷ byte ∷ []) = Ok (call sheet byte)
-sheet_byte_told call (sheet ∷ byte ∷ extra ∷ rest) = Err (Malformed 3)
+abbrev pub sheet_byte_answer : {A : Type 0} → (ℕ → ℕ → A) → List ℕ → Result A FrameFault
+sheet_byte_answer call [] = Err (Malformed 1)
+sheet_byte_answer call (sheet ∷ []) = Err (Malformed 2)
+sheet_byte_answer call (sheet ∷ byte ∷ []) = Ok (call sheet byte)
+sheet_byte_answer call (sheet ∷ byte ∷ extra ∷ rest) = Err (Malformed 3)
 
-abbrev pub call_told : ℕ → List ℕ → Result FrameView FrameFault
-call_told call rest =
-    cond (call == 0xA0) (setup_told rest)
-    (cond (call == 0xB0) (sheet_rest_told open_sheet rest)
-    (cond (call == 0xB1) (sheet_rest_told add rest)
-    (cond (call == 0xB2) (sheet_byte_told swap rest)
-    (cond (call == 0xB3) (sheet_told withdraw rest)
-    (cond (call == 0xB4) (sheet_byte_told join rest)
-    (cond (call == 0xB5) (sheet_told release rest)
-    (cond (call == 0xB6) (sheet_told reopen rest)
-    (cond (call == 0xB7) (sheet_told print rest)
-    (cond (call == 0xB9) (sheet_byte_told look rest)
+abbrev pub call_answer : ℕ → List ℕ → Result FrameView FrameFault
+call_answer call rest =
+    cond (call == 0xA0) (setup_answer rest)
+    (cond (call == 0xB0) (sheet_rest_answer open_sheet rest)
+    (cond (call == 0xB1) (sheet_rest_answer add rest)
+    (cond (call == 0xB2) (sheet_byte_answer swap rest)
+    (cond (call == 0xB3) (sheet_answer withdraw rest)
+    (cond (call == 0xB4) (sheet_byte_answer join rest)
+    (cond (call == 0xB5) (sheet_answer release rest)
+    (cond (call == 0xB6) (sheet_answer reopen rest)
+    (cond (call == 0xB7) (sheet_answer print rest)
+    (cond (call == 0xB9) (sheet_byte_answer look rest)
     (Err (Malformed 0)))))))))))
 
-abbrev pub bytes_told : List ℕ → Result FrameView FrameFault
-bytes_told [] = Err (Malformed 0)
-bytes_told (call ∷ rest) = call_told call rest
+abbrev pub string_answer : List ℕ → Result FrameView FrameFault
+string_answer [] = Err (Malformed 0)
+string_answer (call ∷ rest) = call_answer call rest
 
 -- what a frame says; a string longer than any frame is refused behind the longest
-abbrev pub frame_told : List ℕ → Result FrameView FrameFault
-frame_told s = cond (nat_le (length s) frame_limit) (bytes_told s) (Err (Malformed frame_limit))
+abbrev pub frame_answer : List ℕ → Result FrameView FrameFault
+frame_answer s = cond (nat_le (length s) frame_limit) (string_answer s) (Err (Malformed frame_limit))

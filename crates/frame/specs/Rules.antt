@@ -29,8 +29,8 @@ pairs_added ps place (a ∷ []) = Ok ps
 pairs_added ps place (a ∷ b ∷ s) = elim (pair_added ps (record { from = a; to = b }) place) [ Ok qs ↦ pairs_added qs (place + 2) s | Err f ↦ Err f ]
 
 -- the pairs of a setup, whose count stands at place 2
-abbrev pub pairs_told : List ℕ → Result (List Pair) FrameFault
-pairs_told s = cond (nat_le (length s) (2 * pair_limit)) (pairs_added [] 3 s) (Err (BadSetup 2))
+abbrev pub pairs_answer : List ℕ → Result (List Pair) FrameFault
+pairs_answer s = cond (nat_le (length s) (2 * pair_limit)) (pairs_added [] 3 s) (Err (BadSetup 2))
 
 -- names and those from the place on, one by one
 unfoldable pub names_added : List ℕ → ℕ → List ℕ → Result (List ℕ) FrameFault
@@ -38,8 +38,8 @@ names_added ns place [] = Ok ns
 names_added ns place (n ∷ s) = elim (name_fault ns n) [ None ↦ names_added (ns ++ n ∷ []) (place + 1) s | Some f ↦ Err (BadSetup place) ]
 
 -- the names of a setup, whose count stands at the place
-abbrev pub names_told : ℕ → List ℕ → Result (List ℕ) FrameFault
-names_told place s = cond (nat_le (length s) name_limit) (names_added [] (place + 1) s) (Err (BadSetup place))
+abbrev pub names_answer : ℕ → List ℕ → Result (List ℕ) FrameFault
+names_answer place s = cond (nat_le (length s) name_limit) (names_added [] (place + 1) s) (Err (BadSetup place))
 
 -- whether there are at most 16 definitions, or 48 events
 abbrev pub few : SystemView → Bool
@@ -47,11 +47,11 @@ few (terms bodies) = nat_le (length bodies) definition_limit
 few (net events) = nat_le (length events) (17 * event_limit)
 
 -- a setup of these bytes of pairs, names and system
-abbrev pub rules_told : List ℕ → List ℕ → SystemView → Result FrameView FrameFault
-rules_told pairs names system =
-    elim (pairs_told pairs) [
+abbrev pub rules_answer : List ℕ → List ℕ → SystemView → Result FrameView FrameFault
+rules_answer pairs names system =
+    elim (pairs_answer pairs) [
       | Err f ↦ Err f
-      | Ok ps ↦ elim (names_told (3 + length pairs) names) [
+      | Ok ps ↦ elim (names_answer (3 + length pairs) names) [
         | Err f ↦ Err f
         | Ok ns ↦ cond (few system) (Ok (setup ps ns system)) (Err (BadSetup (3 + length pairs + 1 + length names)))
       ]

@@ -1,7 +1,7 @@
 // Frames and the calls that they name.
 ghost use Rattle.std.specs.Prelude.{◌≡◌, ◌<◌, IfOk, length};
 ghost use Rattle.frame.specs.Frames.{WithinRules, sheet_of};
-ghost use Rattle.frame.specs.Reading.{frame_told, call_told, frame_view, viewed, sheet_told, sheet_byte_told};
+ghost use Rattle.frame.specs.Reading.{frame_answer, call_answer, frame_view, viewed, sheet_answer, sheet_byte_answer};
 ghost use Rattle.frame.specs.Format.{AreBytes, ReadsFrames, PlacesMalformed, PlacesBadSetups, PlacesParts, PlacesBodies, PlacesEvents};
 
 use crate::fault::FrameFault;
@@ -28,7 +28,7 @@ pub const FRAME_LIMIT: usize = 1024;
 impl Frame<'_> {
     // Reads a frame; a string longer than a frame may be is malformed at the limit.
     pub fn read(frame: &[u8]) -> Result<Frame<'_>, FrameFault>
-        ensures answer { viewed frame_view result ≡ frame_told frame.now }
+        ensures answer { viewed frame_view result ≡ frame_answer frame.now }
         ensures rules { IfOk result (λ f. WithinRules (frame_view f)) }
         ensures bytes { AreBytes frame.now }
         ensures frames { ReadsFrames }
@@ -71,7 +71,7 @@ impl Frame<'_> {
 // Reads what stands behind the byte that names the call.
 fn read_call(call: u8, rest: &[u8]) -> Result<Frame<'_>, FrameFault>
     requires { length rest.now < 1024 }
-    ensures { viewed frame_view result ≡ call_told call rest.now }
+    ensures { viewed frame_view result ≡ call_answer call rest.now }
 {
     // By the byte itself: here it becomes the enum of frames, and an enum of calls between would say each byte twice.
     let frame = match call {
@@ -125,7 +125,7 @@ fn read_call(call: u8, rest: &[u8]) -> Result<Frame<'_>, FrameFault>
 
 // The sheet of a call that names nothing else.
 fn alone(rest: &[u8]) -> Result<u8, FrameFault>
-    ensures { result ≡ sheet_told (λ sheet. sheet) rest.now }
+    ensures { result ≡ sheet_answer (λ sheet. sheet) rest.now }
 {
     match rest {
         [] => Err(FrameFault::Malformed(1)),
@@ -136,7 +136,7 @@ fn alone(rest: &[u8]) -> Result<u8, FrameFault>
 
 // The sheet of a call that names one byte more, and that byte.
 fn with_byte(rest: &[u8]) -> Result<(u8, u8), FrameFault>
-    ensures { result ≡ sheet_byte_told (λ sheet byte. (sheet, byte)) rest.now }
+    ensures { result ≡ sheet_byte_answer (λ sheet byte. (sheet, byte)) rest.now }
 {
     match rest {
         [] => Err(FrameFault::Malformed(1)),

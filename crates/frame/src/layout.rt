@@ -1,9 +1,9 @@
 // The layout of a setup: its parts taken apart.
 ghost use Rattle.std.specs.Prelude.{◌≡◌, ◌+◌, ◌*◌, ◌<◌, ◌≤◌, IfSome, length};
 ghost use Rattle.byte_strings.specs.Lent.{part_view, pair_view};
-ghost use Rattle.frame.specs.Parts.{part_told, behind_told};
+ghost use Rattle.frame.specs.Parts.{part_answer, behind_answer};
 ghost use Rattle.frame.specs.Systems.{place_of};
-ghost use Rattle.frame.specs.Reading.{layout_told, layout_view, system_told, system_part_view, terms_told, definitions_view};
+ghost use Rattle.frame.specs.Reading.{layout_answer, layout_view, system_answer, system_part_view, terms_answer, definitions_view};
 
 use crate::definition::Definitions;
 use crate::event::Events;
@@ -20,7 +20,7 @@ pub(crate) enum Kind {
 // Takes the bytes behind the kind of a setup apart: its parts, and the bytes behind them.
 pub(crate) fn layout(kind: Kind, fields: &[u8]) -> Option<(Parts<'_>, &[u8])>
     requires { length fields.now < 1023 }
-    ensures { layout_view result ≡ layout_told kind fields.now }
+    ensures { layout_view result ≡ layout_answer kind fields.now }
 {
     let (pairs, rest) = split_off(fields, 2)?;
     let (names, rest) = split_off(rest, 1)?;
@@ -38,7 +38,7 @@ pub(crate) fn layout(kind: Kind, fields: &[u8]) -> Option<(Parts<'_>, &[u8])>
 // Splits off the count of definitions or events, and these, which stand at the place; what stands behind them comes second.
 fn split_system(kind: Kind, place: u16, bytes: &[u8]) -> Option<(System<'_>, &[u8])>
     requires { place + length bytes.now ≤ 1025 }
-    ensures view { system_part_view result ≡ system_told kind bytes.now }
+    ensures view { system_part_view result ≡ system_answer kind bytes.now }
     ensures placed { IfSome result (λ part. place_of part.0 ≡ place) }
 {
     match kind {
@@ -56,7 +56,7 @@ fn split_system(kind: Kind, place: u16, bytes: &[u8]) -> Option<(System<'_>, &[u
 // Splits off a byte that counts definitions, and these, which stand at the place.
 fn split_definitions(place: u16, bytes: &[u8]) -> Option<(Definitions<'_>, &[u8])>
     requires { place + length bytes.now ≤ 1025 }
-    ensures view { definitions_view result ≡ terms_told bytes.now }
+    ensures view { definitions_view result ≡ terms_answer bytes.now }
     ensures placed { IfSome result (λ part. part.0.place ≡ place) }
 {
     let (count, bytes) = bytes.split_first()?;
@@ -71,7 +71,7 @@ fn split_definitions(place: u16, bytes: &[u8]) -> Option<(Definitions<'_>, &[u8]
 
 // What stands behind so many definitions; none where bytes are missing.
 fn skip_definitions(count: u8, bytes: &[u8]) -> Option<&[u8]>
-    ensures { part_view result ≡ behind_told count bytes.now }
+    ensures { part_view result ≡ behind_answer count bytes.now }
 {
     let mut rest = bytes;
     for _ in 0..count {
@@ -85,7 +85,7 @@ fn skip_definitions(count: u8, bytes: &[u8]) -> Option<&[u8]>
 
 // Splits off a byte that counts items of `size` bytes, and the items; what stands behind them comes second.
 pub(crate) fn split_off(bytes: &[u8], size: u8) -> Option<(&[u8], &[u8])>
-    ensures part { pair_view result ≡ part_told size bytes.now }
+    ensures part { pair_view result ≡ part_answer size bytes.now }
     ensures short { IfSome result (λ part. length part.0.now ≤ 255 * size) }
 {
     let (count, rest) = bytes.split_first()?;

@@ -1,7 +1,7 @@
 // The rules of a setup: its pairs, its names and the number of its definitions or events.
 ghost use Rattle.std.specs.Prelude.{◌≡◌, ◌+◌, ◌≤◌, length};
 ghost use Rattle.actions.specs.Contents.{pairs_of, names_of};
-ghost use Rattle.frame.specs.Rules.{few, rules_told, pair_added, pairs_told, names_told, fault_offset};
+ghost use Rattle.frame.specs.Rules.{few, rules_answer, pair_added, pairs_answer, names_answer, fault_offset};
 ghost use Rattle.frame.specs.Systems.{system_view};
 ghost use Rattle.frame.specs.Reading.{setup_view, viewed};
 
@@ -15,7 +15,7 @@ use terms::terms::DEFINITION_LIMIT;
 
 // The setup of these parts, or the place of the first byte that breaks a rule.
 pub(crate) fn allowed(parts: Parts<'_>) -> Result<Setup<'_>, FrameFault>
-    ensures { viewed setup_view result ≡ rules_told parts.entry.pairs.now parts.entry.names.now (system_view parts.entry.system) }
+    ensures { viewed setup_view result ≡ rules_answer parts.entry.pairs.now parts.entry.names.now (system_view parts.entry.system) }
 {
     let pairs = read_pairs(parts.pairs)?;
     let names_place = 3 + parts.pairs.len() as u16;
@@ -32,7 +32,7 @@ pub(crate) fn allowed(parts: Parts<'_>) -> Result<Setup<'_>, FrameFault>
 
 // Reads the pairs, which stand behind their count at place 2.
 fn read_pairs(bytes: &[u8]) -> Result<Pairs, FrameFault>
-    ensures { viewed pairs_of result ≡ pairs_told bytes.now }
+    ensures { viewed pairs_of result ≡ pairs_answer bytes.now }
 {
     if bytes.len() > 2 * PAIR_LIMIT {
         return Err(FrameFault::BadSetup(2));
@@ -76,7 +76,7 @@ fn offset(fault: PairFault) -> u16
 // Reads the names, which stand behind their count at the place.
 fn read_names(place: u16, bytes: &[u8]) -> Result<Names, FrameFault>
     requires { place ≤ 1024 }
-    ensures { viewed names_of result ≡ names_told place bytes.now }
+    ensures { viewed names_of result ≡ names_answer place bytes.now }
 {
     if bytes.len() > NAME_LIMIT {
         return Err(FrameFault::BadSetup(place));

@@ -1,7 +1,7 @@
 -- A line written in three pieces. Assumes nothing.
 use Rattle.std.proofs.Common.{◌≡◌, ◌+◌, ◌-◌, ◌*◌, ◌<◌, ◌≤◌, [], ◌∷◌, ◌++◌, length, take, drop, set, Some, None, sym, ap, ◌∙◌, arith, length-append}
 use borrow.Rule.Slice.PartMut.{put_mid}
-use Rattle.byte_strings.specs.Buffer.{Str, over, copied_length, copied}
+use Rattle.byte_strings.specs.Buffer.{Str, over, copy_length, buffer_after_copy}
 use Rattle.byte_strings.proofs.Over.{copied_over, copied_not, copied_part, over_byte}
 use Rattle.hexadecimal.specs.Hex.{hex}
 use Rattle.hexadecimal.specs.Line.{line}
@@ -13,11 +13,11 @@ length_line bs = length-append (hex bs) (10 ∷ []) ∙ ap (λ k. k + 1) (length
 length_both : (f b : Str) → length (line (f ++ b)) ≡ 2 * (length f + length b) + 1
 length_both f b = length_line (f ++ b) ∙ ap (λ k. 2 * k + 1) (length-append f b)
 
-pub line_short : (f b o : Str) → length o < 2 * (length f + length b) + 1 → (None ≡ copied_length (line (f ++ b)) (length o)) × (o ≡ copied (line (f ++ b)) o)
+pub line_short : (f b o : Str) → length o < 2 * (length f + length b) + 1 → (None ≡ copy_length (line (f ++ b)) (length o)) × (o ≡ buffer_after_copy (line (f ++ b)) o)
 line_short f b o h = copied_not (line (f ++ b)) o (rw (length_both f b) h)
 
-pub line_written : (f b o p q : Str) → 2 * (length f + length b) + 1 ≤ length o → p ≡ copied (hex f) o → q ≡ copied (hex b) (take (length p - 2 * length f) (drop (2 * length f) p))
-    → (Some (2 * (length f + length b) + 1) ≡ copied_length (line (f ++ b)) (length o)) × (set (put_mid (2 * length f) (length p - 2 * length f) p q) (2 * (length f + length b)) 10 ≡ copied (line (f ++ b)) o)
+pub line_written : (f b o p q : Str) → 2 * (length f + length b) + 1 ≤ length o → p ≡ buffer_after_copy (hex f) o → q ≡ buffer_after_copy (hex b) (take (length p - 2 * length f) (drop (2 * length f) p))
+    → (Some (2 * (length f + length b) + 1) ≡ copy_length (line (f ++ b)) (length o)) × (set (put_mid (2 * length f) (length p - 2 * length f) p q) (2 * (length f + length b)) 10 ≡ buffer_after_copy (line (f ++ b)) o)
 line_written f b o p q room first second =
     let lf = length_hex f in
     let lb = length_hex b in

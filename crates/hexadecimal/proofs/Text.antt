@@ -7,7 +7,7 @@ use Rattle.std.specs.Simd.{first_chunks}
 use Rattle.hexadecimal.specs.Digits.{digit_of, value_of, byte_of, capital}
 use Rattle.byte_strings.specs.Buffer.{over}
 use Rattle.byte_strings.proofs.Over.{over_byte}
-use Rattle.hexadecimal.specs.Hex.{hex, before, sound, read_told, Spells, ReadsBack, ReadsWhatIsSpelled, CasesReadAlike}
+use Rattle.hexadecimal.specs.Hex.{hex, before, sound, read_answer, Spells, ReadsBack, ReadsWhatIsSpelled, CasesReadAlike}
 use Rattle.hexadecimal.specs.Hex.Spells.{nothing, byte}
 
 -- writing
@@ -80,14 +80,14 @@ spells_sound (byte {a} {b} {v} {s} {bs} is more) =
     let (same, len) = spells_sound more in
     (ap (λ o. before o (sound s)) is ∙ ap (λ t. v ∷ t) same, omega arith)
 
-pub reads_spelled : (s bs : List ℕ) (n : ℕ) → Spells s bs → length bs ≤ n → read_told s n ≡ Ok bs
+pub reads_spelled : (s bs : List ℕ) (n : ℕ) → Spells s bs → length bs ≤ n → read_answer s n ≡ Ok bs
 reads_spelled s bs n h fits =
     let (same, len) = spells_sound h in
     let t : take n (sound s) ≡ bs = ap (take n) same ∙ take_all n bs fits in
     let b : eqb (length s) (2 * length bs) ≡ true = eq-eqb _ _ len in
     rw t (cond-true (eqb (length s) (2 * length bs)) (Ok bs) (Err (length bs)) b)
 
-pub spells_read : (s bs : List ℕ) (n : ℕ) → read_told s n ≡ Ok bs → Spells s bs × (length bs ≤ n)
+pub spells_read : (s bs : List ℕ) (n : ℕ) → read_answer s n ≡ Ok bs → Spells s bs × (length bs ≤ n)
 spells_read s bs n e = cases (eqb (length s) (2 * length (take n (sound s)))) refl e
   where
     cases : (t : Bool) → eqb (length s) (2 * length (take n (sound s))) ≡ t → cond t (Ok (take n (sound s))) (Err (length (take n (sound s)))) ≡ Ok bs → Spells s bs × (length bs ≤ n)

@@ -1,6 +1,6 @@
 -- Bytes as hexadecimal text, and the bytes that a line of text spells. Assumes nothing.
 use Rattle.std.specs.Prelude.{◌≡◌, ℕ, ◌*◌, ◌/◌, ◌%◌, ◌≤◌, cond, ◌↔◌, List, [], ◌∷◌, map, length, take, Some, None, Ok, Err, Option, Result, ◌==◌}
-use Rattle.byte_strings.specs.Buffer.{copied_length, copied}
+use Rattle.byte_strings.specs.Buffer.{copy_length, buffer_after_copy}
 use Rattle.hexadecimal.specs.Digits.{digit_of, byte_of, capital}
 
 -- two capital digits a byte
@@ -9,11 +9,11 @@ hex [] = []
 hex (b ∷ bs) = digit_of (b / 16) ∷ digit_of (b % 16) ∷ hex bs
 
 -- what writing answers, and the buffer afterwards: untouched where the text does not fit
-abbrev pub write_told : List ℕ → ℕ → Option ℕ
-write_told bs n = copied_length (hex bs) n
+abbrev pub write_answer : List ℕ → ℕ → Option ℕ
+write_answer bs n = copy_length (hex bs) n
 
 abbrev pub written : List ℕ → List ℕ → List ℕ
-written bs buffer = copied (hex bs) buffer
+written bs buffer = buffer_after_copy (hex bs) buffer
 
 -- a byte before the bytes that follow it; nothing where it is none
 abbrev pub before : Option ℕ → List ℕ → List ℕ
@@ -31,8 +31,8 @@ abbrev pub all_or_count : List ℕ → List ℕ → Result (List ℕ) ℕ
 all_or_count line bs = cond (length line == 2 * length bs) (Ok bs) (Err (length bs))
 
 -- what a line spells within n bytes; else how many sound bytes, at most n, stand before the fault
-abbrev pub read_told : List ℕ → ℕ → Result (List ℕ) ℕ
-read_told line n = all_or_count line (take n (sound line))
+abbrev pub read_answer : List ℕ → ℕ → Result (List ℕ) ℕ
+read_answer line n = all_or_count line (take n (sound line))
 
 -- A line spells bytes: two digits each, and nothing else.
 pub data Spells : List ℕ → List ℕ → Type 0 where
@@ -41,12 +41,12 @@ pub data Spells : List ℕ → List ℕ → Type 0 where
 
 -- A line is read as some bytes exactly where it spells them and they are no more than the limit.
 abbrev pub ReadsWhatIsSpelled : Type 0
-ReadsWhatIsSpelled = (line bs : List ℕ) (n : ℕ) → (read_told line n ≡ Ok bs) ↔ (Spells line bs × (length bs ≤ n))
+ReadsWhatIsSpelled = (line bs : List ℕ) (n : ℕ) → (read_answer line n ≡ Ok bs) ↔ (Spells line bs × (length bs ≤ n))
 
 -- Reading what was written gives the bytes back, within every limit that they fit.
 abbrev pub ReadsBack : List ℕ → Type 0
-ReadsBack bs = (n : ℕ) → length bs ≤ n → read_told (hex bs) n ≡ Ok bs
+ReadsBack bs = (n : ℕ) → length bs ≤ n → read_answer (hex bs) n ≡ Ok bs
 
 -- Letters read alike in both cases.
 abbrev pub CasesReadAlike : Type 0
-CasesReadAlike = (line : List ℕ) (n : ℕ) → read_told (map capital line) n ≡ read_told line n
+CasesReadAlike = (line : List ℕ) (n : ℕ) → read_answer (map capital line) n ≡ read_answer line n

@@ -4,14 +4,14 @@
 
 ghost use Rattle.std.specs.Prelude.{◌≡◌, length, take};
 ghost use Rattle.byte_strings.specs.Buffer.{over, count};
-ghost use Rattle.hexadecimal.specs.Hex.{write_told, written, sound, read_told, ReadsBack, ReadsWhatIsSpelled, CasesReadAlike};
+ghost use Rattle.hexadecimal.specs.Hex.{write_answer, written, sound, read_answer, ReadsBack, ReadsWhatIsSpelled, CasesReadAlike};
 
 mod digits;
 pub mod line;
 
 // Writes two capital digits a byte over the front of `out` and answers how many; none where they do not fit.
 pub fn write(bytes: &[u8], out: &mut [u8]) -> Option<usize>
-    ensures answer { result ≡ write_told bytes.now (length out.old) }
+    ensures answer { result ≡ write_answer bytes.now (length out.old) }
     ensures buffer { out.new ≡ written bytes.now out.old }
     ensures round { ReadsBack bytes.now }
 {
@@ -29,7 +29,7 @@ pub fn write(bytes: &[u8], out: &mut [u8]) -> Option<usize>
 // Reads a line into the front of `out`, as many bytes as it holds at most: how many, or how many sound ones precede the fault.
 // The error is that number, a place and no kind of error.
 pub fn read(line: &[u8], out: &mut [u8]) -> Result<usize, usize>
-    ensures answer { result ≡ count (read_told line.now (length out.old)) }
+    ensures answer { result ≡ count (read_answer line.now (length out.old)) }
     ensures buffer { out.new ≡ over (take (length out.old) (sound line.now)) out.old }
     ensures exactly { ReadsWhatIsSpelled }
     ensures cases { CasesReadAlike }

@@ -12,7 +12,7 @@ use Rattle.bench.specs.declared.fault.BenchFault.{BenchFault}
 use Rattle.bench.specs.declared.fault.BenchFault.TheVariants.{Conflict}
 use Rattle.bench.specs.declared.sheet.Standing.TheVariants.{Open}
 use Rattle.bench.specs.Page.{Page, steps_of, blank_page}
-use Rattle.bench.specs.Replay.{end_told}
+use Rattle.bench.specs.Replay.{end_answer}
 use Rattle.bench.specs.Calls.{Outcome}
 use Rattle.bench.specs.Join as join_of
 use Rattle.bench.specs.Table.{page_at}
@@ -44,7 +44,7 @@ record StandsOpen (t : Transitions) (ps : List Page) (s : ℕ) (a : Str) (xs : L
   few : s < 4
   is_open : (get_or ps s blank_page).standing ≡ Open
   end : Str
-  replays : end_told t (get_or ps s blank_page) ≡ Ok end
+  replays : end_answer t (get_or ps s blank_page) ≡ Ok end
   start : (get_or ps s blank_page).start ≡ a
   steps : steps_of (get_or ps s blank_page) ≡ xs
 

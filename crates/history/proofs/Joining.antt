@@ -9,7 +9,7 @@ use Rattle.steps.specs.declared.fault.MaskFault.TheVariants.{Inner}
 use Rattle.steps.specs.declared.fault.SystemFault.TheVariants.{StateTooLong}
 use Rattle.steps.specs.Meaning.{Str, Transitions, Independence}
 use Rattle.steps.specs.Laws.{Laws}
-use Rattle.steps.specs.Told.{told_length}
+use Rattle.steps.specs.Answers.{told_length}
 use Rattle.steps.proofs.Answered.{state_ok}
 use Rattle.runs.specs.Run.{Run}
 use Rattle.runs.specs.Join.{Joined, join}
@@ -25,7 +25,7 @@ use Rattle.bench.specs.declared.fault.BenchFault.{BenchFault}
 use Rattle.bench.specs.declared.fault.BenchFault.TheVariants.{NoSheet, WrongStanding, System, StartsDiffer, Conflict, TooMany}
 use Rattle.bench.specs.declared.sheet.Standing.TheVariants.{Blank, Open}
 use Rattle.bench.specs.Page.{Page, steps_of}
-use Rattle.bench.specs.Replay.{end_told, replayed}
+use Rattle.bench.specs.Replay.{end_answer, replayed}
 use Rattle.bench.specs.Join.{led, alike, surviving, longer, merged}
 use Rattle.bench.specs.Join as join_of
 use Rattle.bench.proofs.Calling.{not_open}
@@ -47,7 +47,7 @@ use Rattle.history.proofs.Verdict.{Verdict}
 use Rattle.history.proofs.Verdict.Verdict.{turned_down, carried_out}
 
 -- Two open pages with one start, and what a join of them comes to.
-module _ {t : Transitions} {i : Independence} (laws : Laws t i) (p q : Page) (is_p : p.standing ≡ Open) (is_q : q.standing ≡ Open) (b c : Str) (to_b : end_told t p ≡ Ok b) (to_c : end_told t q ≡ Ok c) (same : p.start ≡ q.start) where
+module _ {t : Transitions} {i : Independence} (laws : Laws t i) (p q : Page) (is_p : p.standing ≡ Open) (is_q : q.standing ≡ Open) (b c : Str) (to_b : end_answer t p ≡ Ok b) (to_c : end_answer t q ≡ Ok c) (same : p.start ≡ q.start) where
   not_blank : q.standing ≡ Blank → ⊥
   not_blank e = blank_not_open q e is_q
 
@@ -107,7 +107,7 @@ module _ {t : Transitions} {i : Independence} (laws : Laws t i) (ls : List Sheet
       turned_down (WrongStanding 1) (not_open p _ (blank_not_open p b))
       (nothing_to_join_to s e (view_p ∙ view_blank p b))
 
-  module _ (is_p : p.standing ≡ Open) (b : Str) (to_b : end_told t p ≡ Ok b) where
+  module _ (is_p : p.standing ≡ Open) (b : Str) (to_b : end_answer t p ≡ Ok b) where
     held_p : sheet_at ls s ≡ holds p.start (steps_of p)
     held_p = view_p ∙ view_open p is_p
 
@@ -117,7 +117,7 @@ module _ {t : Transitions} {i : Independence} (laws : Laws t i) (ls : List Sheet
     on_blank_other : q.standing ≡ Blank → Verdict t i ls (join_call s e) (join_of.joined t i (Some q) p)
     on_blank_other blank = turned_down (WrongStanding 2) (joined_blank t i p is_p q blank) (nothing_to_join s e (view_q ∙ view_blank q blank))
 
-    module _ (few : e < 4) (is_q : q.standing ≡ Open) (c : Str) (to_c : end_told t q ≡ Ok c) where
+    module _ (few : e < 4) (is_q : q.standing ≡ Open) (c : Str) (to_c : end_answer t q ≡ Ok c) where
       held_q : sheet_at ls e ≡ holds q.start (steps_of q)
       held_q = view_q ∙ view_open q is_q
 

@@ -3,7 +3,7 @@ use Rattle.std.proofs.Common.{◌≡◌, List, [], ◌∷◌, map, length, sym, 
 use Rattle.steps.specs.declared.fault.MaskFault.TheVariants.{Masked, Inner}
 use Rattle.steps.specs.declared.fault.SystemFault.TheVariants.{Impossible, StateTooLong}
 use Rattle.steps.specs.Meaning.{Transitions, Independence}
-use Rattle.steps.specs.Told.{told_length}
+use Rattle.steps.specs.Answers.{told_length}
 use Rattle.bench.specs.declared.fault.BenchFault.{BenchFault}
 use Rattle.bench.specs.declared.fault.BenchFault.TheVariants.{NoSheet, WrongStanding, System, Full, NoSuchStep}
 use Rattle.bench.specs.Page.{Page}

@@ -7,7 +7,7 @@ use Rattle.steps.specs.declared.fault.MaskFault.TheVariants.{Inner}
 use Rattle.steps.specs.declared.fault.SystemFault.TheVariants.{StateTooLong}
 use Rattle.steps.specs.Meaning.{Str, Transitions, Independence}
 use Rattle.steps.specs.Laws.{Laws}
-use Rattle.steps.specs.Told.{next_told, state_fits, told_length}
+use Rattle.steps.specs.Answers.{next_answer, fitting_state, told_length}
 use Rattle.steps.proofs.Answered.{ok_not_err, fits_ok, next_ok, state_ok}
 use Rattle.runs.specs.Run.{Run}
 use Rattle.runs.specs.Run.Run.{stays, goes}
@@ -18,7 +18,7 @@ use Rattle.bench.specs.declared.fault.BenchFault.TheVariants.{WrongStanding, Sys
 use Rattle.bench.specs.declared.sheet.Standing.{Standing}
 use Rattle.bench.specs.declared.sheet.Standing.TheVariants.{Blank, Open, Released}
 use Rattle.bench.specs.Page.{Page, steps_of}
-use Rattle.bench.specs.Replay.{replayed, end_told}
+use Rattle.bench.specs.Replay.{replayed, end_answer}
 use Rattle.bench.specs.Calls.{Done, Outcome, then, from_system, when_open, when_released, added, withdrawn}
 use Rattle.bench.specs.Print.{sheet_text, printed}
 use Rattle.bench.specs.Look.{when_begun, looked}
@@ -110,7 +110,7 @@ module _ {t : Transitions} {i : Independence} (laws : Laws t i) where
 
   replays_is : (a : Str) (xs : List Str) → Replays t a xs → (b : Str) × (replayed t a xs ≡ Ok b)
   replays_is a xs w =
-      let start = (laws.states_told a).1 (run_start_state laws w.leads.1, w.states 0 a (stays (run_start_state laws w.leads.1))) in
+      let start = (laws.state_refusals a).1 (run_start_state laws w.leads.1, w.states 0 a (stays (run_start_state laws w.leads.1))) in
       let path = run_path xs a w.leads.0 start (steps_are xs a w.leads.0 w.leads.1 w.steps) w.leads.1 w.states in
       (w.leads.0, sym (starts t a xs (Ok w.leads.0) (state_told_ok t a start) (sym (path_followed t path 1))))
 
@@ -134,7 +134,7 @@ module _ {t : Transitions} {i : Independence} (laws : Laws t i) where
   -- a look that is accepted
   record Seen (k n : ℕ) (p : Page) (d : Done) : Type 0 where
     pub begun : p.standing ≡ Blank → ⊥
-    pub end : (z : Str) × (end_told t p ≡ Ok z)
+    pub end : (z : Str) × (end_answer t p ≡ Ok z)
     pub there : k ≤ p.len
     pub first : replayed t p.start (take k (steps_of p)) ≡ Ok d.answer
     pub fits : length d.answer ≤ n
@@ -143,11 +143,11 @@ module _ {t : Transitions} {i : Independence} (laws : Laws t i) where
   seen : (k n : ℕ) (p : Page) (d : Done) → looked t k n p ≡ Ok d → Seen k n p d
   seen k n p d e =
       let one = begun_is p _ d e in
-      let two = then_ok_is (end_told t p) _ d one.1 in
+      let two = then_ok_is (end_answer t p) _ d one.1 in
       let three = either_is (leb k p.len) _ (NoSuchStep k) d two.2 in
       let four = then_ok_is (replayed t p.start (take k p.rows)) _ d three.1 in
-      let five = then_ok_is (from_system (state_fits four.0 n)) _ d four.2 in
-      let fits = fits_ok four.0 five.0 n (from_system_is (state_fits four.0 n) five.0 five.1) in
+      let five = then_ok_is (from_system (fitting_state four.0 n)) _ d four.2 in
+      let fits = fits_ok four.0 five.0 n (from_system_is (fitting_state four.0 n) five.0 five.1) in
       let there : k ≤ p.len = leb-true k p.len three.0 in
       let answer : four.0 ≡ d.answer = fits.0 ∙ cc in
       let page : d.page ≡ p = cc in
@@ -192,7 +192,7 @@ module _ {t : Transitions} {i : Independence} (laws : Laws t i) where
   pub prints : (n : ℕ) (p : Page) (d : Done) → printed t n p ≡ Ok d → (b : Str) × Ends t (page_view p) b × (d.answer ≡ sheet_text t p b) × (d.page ≡ p)
   prints n p d e =
       let one = released_is p _ d e in
-      let two = then_ok_is (end_told t p) _ d one.1 in
+      let two = then_ok_is (end_answer t p) _ d one.1 in
       let three = either_is (leb (length (sheet_text t p two.0)) n) _ _ d two.2 in
       let begun : p.standing ≡ Blank → ⊥ = λ b. cc (b, one.0) in
       let answer : d.answer ≡ sheet_text t p two.0 = cc in
@@ -202,10 +202,10 @@ module _ {t : Transitions} {i : Independence} (laws : Laws t i) where
   pub adds : (x : Str) (n : ℕ) (p : Page) (d : Done) → added t x n p ≡ Ok d → Run t p.start (steps_of p ++ x ∷ []) d.answer × (length p.rows ≡ 32 → page_view d.page ≡ holds p.start (steps_of p ++ x ∷ []))
   adds x n p d e =
       let one = open_is p _ d e in
-      let two = then_ok_is (end_told t p) _ d one.1 in
+      let two = then_ok_is (end_answer t p) _ d one.1 in
       let three = either_is (ltb p.len 32) _ Full d two.2 in
-      let four = then_ok_is (from_system (next_told t two.0 x n)) _ d three.1 in
-      let next = from_system_is (next_told t two.0 x n) four.0 four.1 in
+      let four = then_ok_is (from_system (next_answer t two.0 x n)) _ d three.1 in
+      let next = from_system_is (next_answer t two.0 x n) four.0 four.1 in
       let run = run_snoc laws (replayed_run laws p.start (steps_of p) two.0 two.1).0 (next_ok t two.0 x four.0 n next).leads in
       let done = done_is _ d four.2 in
       let grown : length p.rows ≡ 32 → take (p.len + 1) (set p.rows p.len x) ≡ steps_of p ++ x ∷ [] = λ long. take_more_set p.rows p.len x (omega (arith, long, ltb-true p.len 32 three.0)) in
@@ -214,11 +214,11 @@ module _ {t : Transitions} {i : Independence} (laws : Laws t i) where
   pub withdrawals : (n : ℕ) (p : Page) (d : Done) → withdrawn t n p ≡ Ok d → Ends t (page_view d.page) d.answer
   withdrawals n p d e =
       let one = open_is p _ d e in
-      let two = then_ok_is (end_told t p) _ d one.1 in
+      let two = then_ok_is (end_answer t p) _ d one.1 in
       let three = either_is (ltb 0 p.len) _ (NoSuchStep 0) d two.2 in
       let four = then_ok_is (replayed t p.start (take (p.len - 1) p.rows)) _ d three.1 in
-      let five = then_ok_is (from_system (state_fits four.0 n)) _ d four.2 in
-      let fits = fits_ok four.0 five.0 n (from_system_is (state_fits four.0 n) five.0 five.1) in
+      let five = then_ok_is (from_system (fitting_state four.0 n)) _ d four.2 in
+      let fits = fits_ok four.0 five.0 n (from_system_is (fitting_state four.0 n) five.0 five.1) in
       let run : Run t p.start (take (p.len - 1) p.rows) five.0 = subst (λ b. Run t p.start (take (p.len - 1) p.rows) b) fits.0 (replayed_run laws p.start (take (p.len - 1) p.rows) four.0 four.1).0 in
       subst (λ c. Ends t (page_view c.page) c.answer) (done_is _ d five.2) run
 

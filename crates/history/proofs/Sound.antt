@@ -8,14 +8,14 @@ use Rattle.steps.specs.Meaning.{Str, Transitions}
 use Rattle.bench.specs.declared.sheet.Standing.{Standing}
 use Rattle.bench.specs.declared.sheet.Standing.TheVariants.{Blank, Open, Released}
 use Rattle.bench.specs.Page.{Page, steps_of, blank_page}
-use Rattle.bench.specs.Replay.{end_told}
+use Rattle.bench.specs.Replay.{end_answer}
 use Rattle.history.specs.History.{Sheet, sheet_at}
 use Rattle.history.specs.History.Sheet.{blank, holds}
 use Rattle.history.specs.Views.{page_view}
 
 abbrev pub Stands : Transitions → Page → Standing → Type 0
 Stands t p Blank = Unit {0}
-Stands t p Open = (b : Str) × (end_told t p ≡ Ok b)
+Stands t p Open = (b : Str) × (end_answer t p ≡ Ok b)
 Stands t p Released = ⊥
 
 pub record Sound (t : Transitions) (p : Page) : Type 0 where
@@ -32,7 +32,7 @@ module _ {t : Transitions} {p : Page} (sound : Sound t p) where
   not_released e = subst (Stands t p) e sound.stands
 
   -- it is blank, or open, and then it replays
-  pub by_standing : {P : Type 0} → (p.standing ≡ Blank → P) → (p.standing ≡ Open → (b : Str) → end_told t p ≡ Ok b → P) → P
+  pub by_standing : {P : Type 0} → (p.standing ≡ Blank → P) → (p.standing ≡ Open → (b : Str) → end_answer t p ≡ Ok b → P) → P
   by_standing {P} on_blank on_open = go p.standing refl sound.stands
     where
       go : (st : Standing) → p.standing ≡ st → Stands t p st → P

@@ -7,7 +7,7 @@ use Rattle.steps.specs.declared.fault.MaskFault.TheVariants.{Inner}
 use Rattle.steps.specs.declared.fault.SystemFault.TheVariants.{StateTooLong, StepTooLong}
 use Rattle.steps.specs.Meaning.{Str, Transitions, Independence}
 use Rattle.steps.specs.Laws.{Laws}
-use Rattle.steps.specs.Told.{next_told, step_fits, told_length}
+use Rattle.steps.specs.Answers.{next_answer, fitting_step, told_length}
 use Rattle.steps.proofs.Answered.{some_not_none, next_ok, state_ok}
 use Rattle.runs.specs.Run.{Run}
 use Rattle.runs.specs.Exchange.{Exchange}
@@ -15,13 +15,13 @@ use Rattle.runs.specs.Exchange.Exchange.{here}
 use Rattle.runs.proofs.Runs.{run_end_unique}
 use Rattle.runs.proofs.Exchange.{exchange_sym, exchange_behind, exchanged_one, extends_exchanged}
 use Rattle.joins.specs.Steps.{ShortStep}
-use Rattle.joins.specs.Exchange.{Pair, turned, behind, exchanged_told}
+use Rattle.joins.specs.Exchange.{Pair, turned, behind, exchange_answer}
 use Rattle.joins.proofs.Asking.{left_short}
 use Rattle.bench.specs.declared.fault.BenchFault.{BenchFault}
 use Rattle.bench.specs.declared.fault.BenchFault.TheVariants.{WrongStanding, System, NoSuchStep, Dependent}
 use Rattle.bench.specs.declared.sheet.Standing.TheVariants.{Blank, Open}
 use Rattle.bench.specs.Page.{Page, steps_of}
-use Rattle.bench.specs.Replay.{end_told, replayed}
+use Rattle.bench.specs.Replay.{end_answer, replayed}
 use Rattle.bench.specs.Swap.{with_neighbours}
 use Rattle.bench.specs.Swap as swap_of
 use Rattle.bench.proofs.Calling.{ends_standing, not_open}
@@ -47,7 +47,7 @@ module _ {t : Transitions} {i : Independence} (laws : Laws t i) (ls : List Sheet
       turned_down (WrongStanding 1) (not_open p _ (blank_not_open p e))
       (nothing_to_swap s n (view ∙ view_blank p e))
 
-  module _ (e : p.standing ≡ Open) (z : Str) (r : end_told t p ≡ Ok z) where
+  module _ (e : p.standing ≡ Open) (z : Str) (r : end_answer t p ≡ Ok z) where
     held : sheet_at ls s ≡ holds p.start (steps_of p)
     held = view ∙ view_open p e
 
@@ -70,8 +70,8 @@ module _ {t : Transitions} {i : Independence} (laws : Laws t i) (ls : List Sheet
       stands : sheet_at ls s ≡ holds p.start (front ++ x ∷ w ∷ rest)
       stands = held ∙ ap (holds p.start) split
 
-      told : exchanged_told i (get_or p.rows (n - 1) []) (get_or p.rows n []) ≡ turned i x (step_fits (i.back x w) 64)
-      told = ap₂ (exchanged_told i) is_x is_w
+      told : exchange_answer i (get_or p.rows (n - 1) []) (get_or p.rows n []) ≡ turned i x (fitting_step (i.back x w) 64)
+      told = ap₂ (exchange_answer i) is_x is_w
 
       -- what another sheet of the same steps has at the place
       same_place : (a : Str) (front' : List Str) (x' w' : Str) (rest' : List Str) → sheet_at ls s ≡ holds a (front' ++ x' ∷ w' ∷ rest') → n ≡ length front' + 1 → (a ≡ p.start) × (front' ≡ front) × (x' ≡ x) × (w' ≡ w)
@@ -84,7 +84,7 @@ module _ {t : Transitions} {i : Independence} (laws : Laws t i) (ls : List Sheet
 
       on_dependent : i.back x w ≡ None → Verdict t i ls (swap s n) (swap_of.swapped t i n p)
       on_dependent none =
-          turned_down (Dependent n) (swapped_dependent t i p n z (ends_standing t Open p z e (sym r)) above below (sym (told ∙ ap (λ o. turned i x (step_fits o 64)) none)))
+          turned_down (Dependent n) (swapped_dependent t i p n z (ends_standing t Open p z e (sym r)) above below (sym (told ∙ ap (λ o. turned i x (fitting_step o 64)) none)))
           (dependent s n p.start front x w rest stands place (λ y h. some_not_none y (sym ((laws.origin x y w).1 h) ∙ none)))
 
       module _ (y : Str) (back : i.back x w ≡ Some y) where
@@ -94,16 +94,16 @@ module _ {t : Transitions} {i : Independence} (laws : Laws t i) (ls : List Sheet
         on_over : 64 < length y → Verdict t i ls (swap s n) (swap_of.swapped t i n p)
         on_over over =
             let f : MaskFault = Inner (StepTooLong (told_length (length y))) in
-            let fits : step_fits (Some y) 64 ≡ Err f = cond-false (leb (length y) 64) (Ok (Some y)) (Err f) (lt-leb _ _ over) in
-            turned_down (System f) (swapped_refused t i p n z (ends_standing t Open p z e (sym r)) above below f (sym (told ∙ ap (λ o. turned i x (step_fits o 64)) back ∙ ap (turned i x) fits)))
+            let fits : fitting_step (Some y) 64 ≡ Err f = cond-false (leb (length y) 64) (Ok (Some y)) (Err f) (lt-leb _ _ over) in
+            turned_down (System f) (swapped_refused t i p n z (ends_standing t Open p z e (sym r)) above below f (sym (told ∙ ap (λ o. turned i x (fitting_step o 64)) back ∙ ap (turned i x) fits)))
             (step_over s n p.start front x w rest y (told_length (length y)) stands place left_y over refl)
 
         -- the states on the way: a before x, b behind it, c behind both, d behind y
-        module _ (short_y : length y ≤ 64) (x' : Str) (left_x : i.left x y ≡ Some x') (a b c d : Str) (start : t.bad_state p.start ≡ None) (to_a : Path t p.start front a) (to_b : next_told t a x 256 ≡ Ok b) (to_c : next_told t b w 256 ≡ Ok c) (to_z : Path t c rest z) (to_d : t.next a y ≡ Ok d) where
-          pair : exchanged_told i (get_or p.rows (n - 1) []) (get_or p.rows n []) ≡ Ok (Some (record { first = y; second = x' }))
+        module _ (short_y : length y ≤ 64) (x' : Str) (left_x : i.left x y ≡ Some x') (a b c d : Str) (start : t.bad_state p.start ≡ None) (to_a : Path t p.start front a) (to_b : next_answer t a x 256 ≡ Ok b) (to_c : next_answer t b w 256 ≡ Ok c) (to_z : Path t c rest z) (to_d : t.next a y ≡ Ok d) where
+          pair : exchange_answer i (get_or p.rows (n - 1) []) (get_or p.rows n []) ≡ Ok (Some (record { first = y; second = x' }))
           pair =
-              let fits : step_fits (Some y) 64 ≡ Ok (Some y) = cond-true (leb (length y) 64) (Ok (Some y)) (Err (Inner (StepTooLong (told_length (length y))))) (le-leb _ _ short_y) in
-              told ∙ ap (λ o. turned i x (step_fits o 64)) back ∙ ap (turned i x) fits ∙ ap (λ o. Ok (behind y o)) left_x
+              let fits : fitting_step (Some y) 64 ≡ Ok (Some y) = cond-true (leb (length y) 64) (Ok (Some y)) (Err (Inner (StepTooLong (told_length (length y))))) (le-leb _ _ short_y) in
+              told ∙ ap (λ o. turned i x (fitting_step o 64)) back ∙ ap (turned i x) fits ∙ ap (λ o. Ok (behind y o)) left_x
 
           before_a : replayed t p.start (take (n - 1) p.rows) ≡ Ok a
           before_a = ap (replayed t p.start) is_front ∙ path_replayed t p.start (steps_of p) z front a r to_a
@@ -115,7 +115,7 @@ module _ {t : Transitions} {i : Independence} (laws : Laws t i) (ls : List Sheet
           step_y = (laws.between_steps y x w left_y, short_y)
 
           step_x : ShortStep t x
-          step_x = let f = next_ok t a x b 256 to_b in (laws.steps_told x).0 (f.shaped, f.shown)
+          step_x = let f = next_ok t a x b 256 to_b in (laws.step_refusals x).0 (f.shaped, f.shown)
 
           -- an y of which w is left after x is this one
           same_y : (v : Str) → i.left v x ≡ Some w → v ≡ y

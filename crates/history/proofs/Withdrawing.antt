@@ -8,7 +8,7 @@ use Rattle.bench.specs.declared.fault.BenchFault.{BenchFault}
 use Rattle.bench.specs.declared.fault.BenchFault.TheVariants.{WrongStanding, NoSuchStep}
 use Rattle.bench.specs.declared.sheet.Standing.TheVariants.{Blank, Open}
 use Rattle.bench.specs.Page.{Page, steps_of}
-use Rattle.bench.specs.Replay.{end_told, replayed}
+use Rattle.bench.specs.Replay.{end_answer, replayed}
 use Rattle.bench.specs.Calls.{withdrawn}
 use Rattle.bench.proofs.Calling.{ends_standing, not_open, withdrawn_none, withdrawn_last}
 use Rattle.history.specs.History.{Sheet, sheet_at, Reason}
@@ -28,7 +28,7 @@ module _ {t : Transitions} {i : Independence} (laws : Laws t i) (ls : List Sheet
       turned_down (WrongStanding 1) (not_open p _ (blank_not_open p e))
       (nothing_to_withdraw s (view ∙ view_blank p e))
 
-  module _ (e : p.standing ≡ Open) (z : Str) (r : end_told t p ≡ Ok z) where
+  module _ (e : p.standing ≡ Open) (z : Str) (r : end_answer t p ≡ Ok z) where
     held : sheet_at ls s ≡ holds p.start (steps_of p)
     held = view ∙ view_open p e
 

@@ -2,7 +2,7 @@
 use Rattle.std.specs.Prelude.{◌≡◌, ℕ, ◌+◌, ◌<◌, ◌≤◌, true, ◌≢◌, ◌⊎◌, ◌↔◌, List, [], ◌∷◌, ◌++◌, map, length, take, replicate, Some, Ok, Err, slice_index_or}
 use Rattle.steps.specs.Meaning.{Str, Transitions, Independence}
 use Rattle.steps.specs.Laws.{state_limit, step_limit}
-use Rattle.steps.specs.Told.{told_length}
+use Rattle.steps.specs.Answers.{told_length}
 use Rattle.steps.specs.declared.fault.MaskFault.{MaskFault}
 use Rattle.steps.specs.declared.fault.MaskFault.TheVariants.{Inner}
 use Rattle.steps.specs.declared.fault.SystemFault.TheVariants.{Impossible, StateTooLong, StepTooLong}

@@ -11,10 +11,10 @@ use Rattle.runs.specs.Join.Carried.{clash, gone, kept}
 use Rattle.runs.proofs.Carry.{Carries, meet_means, carry_same, carry_passes, carry_hits}
 use Rattle.runs.proofs.Carry.Carries.{through, meets, past}
 use Rattle.joins.specs.Steps.{ShortStep, ShortSteps}
-use Rattle.joins.specs.Carry.{carried_told}
+use Rattle.joins.specs.Carry.{carry_answer}
 use Rattle.joins.specs.declared.meet.Clash.{Clash}
 use Rattle.joins.specs.declared.meet.Passed.{Passed}
-use Rattle.joins.specs.Meet.{met_told}
+use Rattle.joins.specs.Meet.{meet_answer}
 use Rattle.joins.proofs.Asking.{left_short}
 
 -- steps in front of what remains
@@ -108,11 +108,11 @@ module _ {t : Transitions} {i : Independence} (laws : Laws t i) where
   carries_short (past {y = y} {x = x} {y' = y'} {x' = x'} e f c) s ss = (left_short laws x y x' ss.0 f, carries_short c (left_short laws y x y' s e) ss.1)
 
 -- a clash is told as one
-pub hits_told : (r : Result (Option Passed) Clash) → IsErr r → hits ≡ met_told r
+pub hits_told : (r : Result (Option Passed) Clash) → IsErr r → hits ≡ meet_answer r
 hits_told (Ok p) e = absurd (true≢false (sym e))
 hits_told (Err f) e = refl
 
-pub clash_told : (r : Result (Option Str × List Str) Clash) → IsErr r → clash ≡ carried_told r
+pub clash_told : (r : Result (Option Str × List Str) Clash) → IsErr r → clash ≡ carry_answer r
 clash_told (Ok p) e = absurd (true≢false (sym e))
 clash_told (Err f) e = refl
 
@@ -146,9 +146,9 @@ module _ {t : Transitions} {i : Independence} (laws : Laws t i) (y : Str) (xs q 
     turn_hits w was m = at_hits i xs k q _ lt x at w m (rw was at inv.0)
 
   module _ (done : length xs ≤ k) where
-    pub ends : carried_told (Ok (o, q)) ≡ carry i y xs
+    pub ends : carry_answer (Ok (o, q)) ≡ carry i y xs
     ends = go o inv.0
       where
-        go : (p : Option Str) → ahead q (goes_on i p (drop k xs)) ≡ carry i y xs → carried_told (Ok (p, q)) ≡ carry i y xs
+        go : (p : Option Str) → ahead q (goes_on i p (drop k xs)) ≡ carry i y xs → carry_answer (Ok (p, q)) ≡ carry i y xs
         go None e = all_gone i xs k q _ done e
         go (Some w) e = all_kept i xs k q _ done w e

@@ -5,7 +5,7 @@ use Rattle.runs.specs.Join.{Carried}
 use Rattle.runs.specs.Join.Carried.{clash, gone, kept}
 use Rattle.joins.specs.declared.meet.Clash.{Clash}
 
-abbrev pub carried_told : Result (Option Str × List Str) Clash → Carried
-carried_told (Ok (None, remains)) = gone remains
-carried_told (Ok (Some rest, remains)) = kept rest remains
-carried_told (Err f) = clash
+abbrev pub carry_answer : Result (Option Str × List Str) Clash → Carried
+carry_answer (Ok (None, remains)) = gone remains
+carry_answer (Ok (Some rest, remains)) = kept rest remains
+carry_answer (Err f) = clash

@@ -2,7 +2,7 @@
 use Rattle.std.specs.Prelude.{Some, None, Ok, Err, Option, Result}
 use Rattle.steps.specs.Meaning.{Str, Independence}
 use Rattle.steps.specs.Laws.{step_limit}
-use Rattle.steps.specs.Told.{step_fits}
+use Rattle.steps.specs.Answers.{fitting_step}
 use Rattle.steps.specs.declared.fault.MaskFault.{MaskFault}
 use Rattle.joins.specs.declared.exchange.Neighbours.{Neighbours}
 
@@ -11,10 +11,10 @@ pub record Pair : Type 0 where
   pub first : Str
   pub second : Str
 
-abbrev pub neighbours_told : Result (Option Neighbours) MaskFault → Result (Option Pair) MaskFault
-neighbours_told (Ok (Some n)) = Ok (Some (record { first = n.first; second = n.second }))
-neighbours_told (Ok None) = Ok None
-neighbours_told (Err f) = Err f
+abbrev pub neighbours_answer : Result (Option Neighbours) MaskFault → Result (Option Pair) MaskFault
+neighbours_answer (Ok (Some n)) = Ok (Some (record { first = n.first; second = n.second }))
+neighbours_answer (Ok None) = Ok None
+neighbours_answer (Err f) = Err f
 
 -- y, and what is left of the other behind it
 abbrev pub behind : Str → Option Str → Option Pair
@@ -27,5 +27,5 @@ turned i x (Ok None) = Ok None
 turned i x (Err f) = Err f
 
 -- x and then z: first the step y of which z is left after x, then what is left of x after y; y may be too long to be held
-abbrev pub exchanged_told : Independence → Str → Str → Result (Option Pair) MaskFault
-exchanged_told i x z = turned i x (step_fits (i.back x z) step_limit)
+abbrev pub exchange_answer : Independence → Str → Str → Result (Option Pair) MaskFault
+exchange_answer i x z = turned i x (fitting_step (i.back x z) step_limit)

@@ -5,7 +5,7 @@ use Rattle.runs.specs.Join.Met.{same, passes, hits}
 use Rattle.joins.specs.declared.meet.Clash.{Clash}
 use Rattle.joins.specs.declared.meet.Passed.{Passed}
 
-abbrev pub met_told : Result (Option Passed) Clash → Met
-met_told (Ok None) = same
-met_told (Ok (Some p)) = passes p.y p.x
-met_told (Err f) = hits
+abbrev pub meet_answer : Result (Option Passed) Clash → Met
+meet_answer (Ok None) = same
+meet_answer (Ok (Some p)) = passes p.y p.x
+meet_answer (Err f) = hits

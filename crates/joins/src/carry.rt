@@ -2,7 +2,7 @@
 ghost use Rattle.std.specs.Prelude.{◌≡◌};
 ghost use Rattle.runs.specs.Join as theory;
 ghost use Rattle.joins.specs.Steps.{ShortStep, ShortSteps};
-ghost use Rattle.joins.specs.Carry.{carried_told};
+ghost use Rattle.joins.specs.Carry.{carry_answer};
 
 use crate::list::StepList;
 use crate::meet::{Clash, meet};
@@ -17,7 +17,7 @@ pub(crate) fn carry<S: StepSystem>(
 ) -> Result<(Option<Held<64>>, StepList), Clash>
     requires first { ShortStep (S.transitions system.now) step.now }
     requires others { ShortSteps (S.transitions system.now) list.now }
-    ensures { carried_told result ≡ theory.carry (S.independence system.now) step.now list.now }
+    ensures { carry_answer result ≡ theory.carry (S.independence system.now) step.now list.now }
 {
     let mut remains = StepList::empty();
     let mut carried = Some(*step);

@@ -1,7 +1,7 @@
 // Two neighbours, the other way round.
 ghost use Rattle.std.specs.Prelude.{◌≡◌};
 ghost use Rattle.joins.specs.Steps.{ShortStep};
-ghost use Rattle.joins.specs.Exchange.{neighbours_told, exchanged_told};
+ghost use Rattle.joins.specs.Exchange.{neighbours_answer, exchange_answer};
 
 use crate::residual::residual;
 use byte_strings::held::Held;
@@ -23,7 +23,7 @@ pub fn exchange<S: StepSystem>(
 ) -> Result<Option<Neighbours>, MaskFault>
     requires first { ShortStep (S.transitions system.now) x.now }
     requires second { ShortStep (S.transitions system.now) z.now }
-    ensures { neighbours_told result ≡ exchanged_told (S.independence system.now) x.now z.now }
+    ensures { neighbours_answer result ≡ exchange_answer (S.independence system.now) x.now z.now }
 {
     // A lent buffer and a length: so the interface of step systems answers, without a heap.
     let mut bytes = [0u8; 64];

@@ -2,7 +2,7 @@
 ghost use Rattle.std.specs.Prelude.{◌≡◌};
 ghost use Rattle.runs.specs.Join as theory;
 ghost use Rattle.joins.specs.Steps.{ShortStep};
-ghost use Rattle.joins.specs.Meet.{met_told};
+ghost use Rattle.joins.specs.Meet.{meet_answer};
 
 use crate::residual::residual;
 use byte_strings::held::Held;
@@ -27,7 +27,7 @@ pub(crate) fn meet<S: StepSystem>(
 ) -> Result<Option<Passed>, Clash>
     requires first { ShortStep (S.transitions system.now) y.now }
     requires second { ShortStep (S.transitions system.now) x.now }
-    ensures { met_told result ≡ theory.meet (S.independence system.now) y.now x.now }
+    ensures { meet_answer result ≡ theory.meet (S.independence system.now) y.now x.now }
 {
     if y.items() == x.items() {
         // One step; `?` has nothing to turn here.

@@ -5,20 +5,20 @@ use Rattle.std.specs.List.{Contains}
 use Rattle.actions.specs.declared.pairs.Pair.{Pair}
 use Rattle.actions.specs.Action.{is_name, name_of}
 use Rattle.actions.specs.Names.{all_names, hides}
-use Rattle.actions.specs.Pairs.{to_of, sound_pairs, renamed}
+use Rattle.actions.specs.Pairs.{to_of, sound_pairs, replacement}
 use Rattle.actions.proofs.Listed.{finds, name_found, hides_listed, at_least, at_most, shown}
 use Rattle.actions.proofs.Paired.{listed, to_name, sound_from, sound_rest, renames_names}
 use Rattle.steps.specs.declared.fault.MaskFault.{MaskFault}
 use Rattle.steps.specs.declared.fault.MaskFault.TheVariants.{Masked, Inner}
 use Rattle.steps.specs.declared.fault.SystemFault.TheVariants.{NoStep}
 use Rattle.steps.specs.declared.label.Label.{Label}
-use Rattle.steps.specs.Told.{first, step_refused, step_hidden, step_told, independent_told}
+use Rattle.steps.specs.Answers.{first, step_refusal, hidden_refusal, step_answer, independent_answer}
 use Rattle.steps.proofs.Answered.{ok_not_err, some_not_none, step_shaped}
 use Rattle.steps.specs.Meaning.{Str, Transitions, Independence}
-use Rattle.layers.specs.Mask.{stops, masked, masked_independence}
-use Rattle.layers.specs.Renaming.{label_renamed, with_names}
-use Rattle.layers.specs.MaskLaws.{masked_laws}
-use Rattle.layers.specs.RenamingLaws.{renamed_laws}
+use Rattle.layers.specs.Mask.{stops, mask_transitions, mask_independence}
+use Rattle.layers.specs.Renaming.{renamed_label, renaming_transitions}
+use Rattle.layers.specs.MaskLaws.{mask_laws}
+use Rattle.layers.specs.RenamingLaws.{renaming_laws}
 use Rattle.layers.specs.Promises.{Shows, ShowsListed, MaskedSteps, RenamedLabels, MaskedRenamed, NothingListed, LawsKept}
 
 -- a listed name or the co-name of one is hidden, and nothing else
@@ -54,7 +54,7 @@ pub nothing_listed : (t : Transitions) (i : Independence) → NothingListed t i
 nothing_listed t i = record { mask = refl; independence = refl; renaming = refl }
 
 pub laws_kept : (ns : List ℕ) (ps : List Pair) (t : Transitions) (i : Independence) → LawsKept ns ps t i
-laws_kept ns ps t i = record { mask = λ l. masked_laws ns t i l; renaming = λ l. renamed_laws ps t i l }
+laws_kept ns ps t i = record { mask = λ l. mask_laws ns t i l; renaming = λ l. renaming_laws ps t i l }
 
 behind_move : (h : Bool) (r : Result Str ℕ) (b : Str) → (cond h (Err 0) r ≡ Ok b) ↔ ((r ≡ Ok b) × (h ≡ false))
 behind_move true r b = (λ e. ok_not_err b 0 (sym e), λ p. absurd (false≢true (sym p.1)))
@@ -66,36 +66,36 @@ behind_left false true o z = (λ e. some_not_none z (sym e), λ p. absurd (false
 behind_left false false o z = (λ e. (e, refl, refl), λ p. p.0)
 
 module _ (ns : List ℕ) (names : all_names ns ≡ true) (t : Transitions) where
-  stays_step : (x : Str) → ((masked ns t).step x ≡ true) ↔ ((t.step x ≡ true) × (ShowsListed ns (t.label x).action → ⊥))
+  stays_step : (x : Str) → ((mask_transitions ns t).step x ≡ true) ↔ ((t.step x ≡ true) × (ShowsListed ns (t.label x).action → ⊥))
   stays_step x =
       let b = behind_step (stops ns t x) (t.step x) in (
         λ e. let p = b.0 e in (p.0, hides_not ns (t.label x).action names p.1),
         λ p. b.1 (p.0, shows_not ns (t.label x).action names p.1),
       )
 
-  stays_move : (a x b : Str) → ((masked ns t).next a x ≡ Ok b) ↔ ((t.next a x ≡ Ok b) × (ShowsListed ns (t.label x).action → ⊥))
+  stays_move : (a x b : Str) → ((mask_transitions ns t).next a x ≡ Ok b) ↔ ((t.next a x ≡ Ok b) × (ShowsListed ns (t.label x).action → ⊥))
   stays_move a x y =
       let b = behind_move (stops ns t x) (t.next a x) y in (
         λ e. let p = b.0 e in (p.0, hides_not ns (t.label x).action names p.1),
         λ p. b.1 (p.0, shows_not ns (t.label x).action names p.1),
       )
 
-  stays_left : (i : Independence) (x y z : Str) → ((masked_independence ns t i).left x y ≡ Some z) ↔ ((i.left x y ≡ Some z) × (ShowsListed ns (t.label x).action → ⊥) × (ShowsListed ns (t.label y).action → ⊥))
+  stays_left : (i : Independence) (x y z : Str) → ((mask_independence ns t i).left x y ≡ Some z) ↔ ((i.left x y ≡ Some z) × (ShowsListed ns (t.label x).action → ⊥) × (ShowsListed ns (t.label y).action → ⊥))
   stays_left i x y z =
       let b = behind_left (stops ns t x) (stops ns t y) (i.left x y) z in (
         λ e. let p = b.0 e in (p.0, hides_not ns (t.label x).action names p.1, hides_not ns (t.label y).action names p.2),
         λ p. b.1 (p.0, shows_not ns (t.label x).action names p.1, shows_not ns (t.label y).action names p.2),
       )
 
-  is_sent_back : (x : Str) → t.bad_step x ≡ None → ShowsListed ns (t.label x).action → step_told (masked ns t) x ≡ Err Masked
+  is_sent_back : (x : Str) → t.bad_step x ≡ None → ShowsListed ns (t.label x).action → step_answer (mask_transitions ns t) x ≡ Err Masked
   is_sent_back x shaped l =
-      ap (λ o. first o (first (step_hidden (masked ns t) x) (Ok tt))) (step_shaped (masked ns t) x shaped)
+      ap (λ o. first o (first (hidden_refusal (mask_transitions ns t) x) (Ok tt))) (step_shaped (mask_transitions ns t) x shaped)
       ∙ ap (λ h. first {A = Unit {0}} (cond (cond h true (t.hidden x)) (Some Masked) None) (Ok tt)) (hides_from ns (t.label x).action names l)
 
-  is_shape_first : (i : Independence) (x y : Str) (p : ℕ) → t.bad_step x ≡ None → t.bad_step y ≡ Some p → independent_told (masked ns t) (masked_independence ns t i) x y ≡ Err (Inner (NoStep p))
+  is_shape_first : (i : Independence) (x y : Str) (p : ℕ) → t.bad_step x ≡ None → t.bad_step y ≡ Some p → independent_answer (mask_transitions ns t) (mask_independence ns t i) x y ≡ Err (Inner (NoStep p))
   is_shape_first i x y p shaped bad =
-      let rest = first (step_hidden (masked ns t) x) (first (step_hidden (masked ns t) y) (Ok (is_some ((masked_independence ns t i).left x y)))) in
-      ap (λ o. first o (first (step_refused (masked ns t) y) rest)) (step_shaped (masked ns t) x shaped)
+      let rest = first (hidden_refusal (mask_transitions ns t) x) (first (hidden_refusal (mask_transitions ns t) y) (Ok (is_some ((mask_independence ns t i).left x y)))) in
+      ap (λ o. first o (first (step_refusal (mask_transitions ns t) y) rest)) (step_shaped (mask_transitions ns t) x shaped)
       ∙ ap (λ o. first (elim o as (λ _. Option MaskFault) [ None ↦ None | Some k ↦ Some (Inner (NoStep k)) ]) rest) bad
 
   pub masked_steps : (i : Independence) → MaskedSteps ns t i
@@ -112,7 +112,7 @@ module _ (ns : List ℕ) (names : all_names ns ≡ true) (t : Transitions) where
       }
 
 -- what shows a pair's name is the name or its co-name
-label_same : (ps : List Pair) (l : Label) → renamed ps l.action ≡ l.action → label_renamed ps l ≡ l
+label_same : (ps : List Pair) (l : Label) → replacement ps l.action ≡ l.action → renamed_label ps l ≡ l
 label_same ps l e = ap (λ a. record l { action = a }) e
 
 -- what has a pair is a name
@@ -131,17 +131,17 @@ module _ (ps : List Pair) (sound : sound_pairs ps ≡ true) where
   gives_name : (p : Pair) → Contains ps p → is_name p.to ≡ true
   gives_name p has = to_name ps p.from p.to sound (listed ps p sound has)
 
-  renamed_other : (a : ℕ) → ((p : Pair) → Contains ps p → Shows a p.from → ⊥) → renamed ps a ≡ a
+  renamed_other : (a : ℕ) → ((p : Pair) → Contains ps p → Shows a p.from → ⊥) → replacement ps a ≡ a
   renamed_other a none = (renames_names ps sound).others a (λ p has e. none p has (shows_of a p.from (has_name p has) e))
     where
       shows_of : (a n : ℕ) → is_name n ≡ true → n ≡ name_of a → Shows a n
       shows_of a n name e = elim (shown a (ap is_name (sym e) ∙ name)) [ inl h ↦ inl (h ∙ sym e) | inr h ↦ inr (h ∙ ap (λ k. k + 64) (sym e)) ]
 
-  renamed_name : (a : ℕ) (p : Pair) → Contains ps p → a ≡ p.from → renamed ps a ≡ p.to
-  renamed_name a p has e = ap (renamed ps) e ∙ ((renames_names ps sound).listed p has).0
+  renamed_name : (a : ℕ) (p : Pair) → Contains ps p → a ≡ p.from → replacement ps a ≡ p.to
+  renamed_name a p has e = ap (replacement ps) e ∙ ((renames_names ps sound).listed p has).0
 
-  renamed_co_name : (a : ℕ) (p : Pair) → Contains ps p → a ≡ p.from + 64 → renamed ps a ≡ p.to + 64
-  renamed_co_name a p has e = ap (renamed ps) e ∙ ((renames_names ps sound).listed p has).1
+  renamed_co_name : (a : ℕ) (p : Pair) → Contains ps p → a ≡ p.from + 64 → replacement ps a ≡ p.to + 64
+  renamed_co_name a p has e = ap (replacement ps) e ∙ ((renames_names ps sound).listed p has).1
 
   pub renamed_labels : (t : Transitions) → RenamedLabels ps t
   renamed_labels t =
@@ -154,21 +154,21 @@ module _ (ps : List Pair) (sound : sound_pairs ps ≡ true) where
       }
 
   -- what a paired action becomes is listed where the other name of the pair is
-  pair_listed : (ns : List ℕ) (a : ℕ) (p : Pair) → all_names ns ≡ true → Contains ps p → Shows a p.from → ShowsListed ns (renamed ps a) ↔ Contains ns p.to
+  pair_listed : (ns : List ℕ) (a : ℕ) (p : Pair) → all_names ns ≡ true → Contains ps p → Shows a p.from → ShowsListed ns (replacement ps a) ↔ Contains ns p.to
   pair_listed ns a p names has (inl e) = (to, λ l. (p.to, l, inl is))
     where
-      is : renamed ps a ≡ p.to
+      is : replacement ps a ≡ p.to
       is = renamed_name a p has e
 
-      to : ShowsListed ns (renamed ps a) → Contains ns p.to
+      to : ShowsListed ns (replacement ps a) → Contains ns p.to
       to (n, l, inl h) = subst (Contains ns) (sym h ∙ is) l
       to (n, l, inr h) = let low = at_most p.to (gives_name p has) in absurd (omega (arith, low, h, is))
   pair_listed ns a p names has (inr e) = (to, λ l. (p.to, l, inr is))
     where
-      is : renamed ps a ≡ p.to + 64
+      is : replacement ps a ≡ p.to + 64
       is = renamed_co_name a p has e
 
-      to : ShowsListed ns (renamed ps a) → Contains ns p.to
+      to : ShowsListed ns (replacement ps a) → Contains ns p.to
       to (n, l, inl h) = let low = at_most n (name_found ns n names (finds ns n l)) in absurd (omega (arith, low, h, is))
       to (n, l, inr h) = subst (Contains ns) (omega (arith, h, is)) l
 
@@ -176,13 +176,13 @@ module _ (ps : List Pair) (sound : sound_pairs ps ≡ true) where
   masked_renamed ns t names =
       record {
         paired = λ x p has s.
-            let b = stays_step ns names (with_names ps t) x in
+            let b = stays_step ns names (renaming_transitions ps t) x in
             let l = pair_listed ns (t.label x).action p names has s in (
               λ e. let q = b.0 e in (q.0, λ h. q.1 (l.1 h)),
               λ q. b.1 (q.0, λ h. q.1 (l.0 h)),
             );
         others = λ x none.
-            let b = stays_step ns names (with_names ps t) x in
+            let b = stays_step ns names (renaming_transitions ps t) x in
             let same = renamed_other (t.label x).action none in (
               λ e. let q = b.0 e in (q.0, λ h. q.1 (subst (ShowsListed ns) (sym same) h)),
               λ q. b.1 (q.0, λ h. q.1 (subst (ShowsListed ns) same h)),

@@ -9,8 +9,8 @@ module _ (names : List ℕ) (t : Transitions) where
   stops x = hides names (t.label x).action
 
   -- A step that is stopped is no step, and leads nowhere. All else is as inside.
-  abbrev pub masked : Transitions
-  masked =
+  abbrev pub mask_transitions : Transitions
+  mask_transitions =
       record {
         state = t.state;
         step = λ x. cond (stops x) false (t.step x);
@@ -26,8 +26,8 @@ module _ (names : List ℕ) (t : Transitions) where
   stops_one x y = stops x || stops y
 
   -- A step that is stopped is independent of none.
-  abbrev pub masked_independence : Independence → Independence
-  masked_independence i =
+  abbrev pub mask_independence : Independence → Independence
+  mask_independence i =
       record {
         left = λ x y. cond (stops_one x y) None (i.left x y);
         back = λ x z. cond (stops_one x z) None (i.back x z);

@@ -1,9 +1,9 @@
 // A mask: the system inside, without the steps that show certain names.
 ghost use Rattle.std.specs.Prelude.{◌≡◌, Ok};
 ghost use Rattle.actions.specs.Contents.{names_of};
-ghost use Rattle.steps.specs.Told.{both_told};
-ghost use Rattle.layers.specs.Mask.{masked, masked_independence};
-ghost use Rattle.layers.specs.MaskLaws.{masked_laws};
+ghost use Rattle.steps.specs.Answers.{both_answer};
+ghost use Rattle.layers.specs.Mask.{mask_transitions, mask_independence};
+ghost use Rattle.layers.specs.MaskLaws.{mask_laws};
 
 use actions::names::Names;
 use steps::fault::MaskFault;
@@ -20,7 +20,7 @@ pub struct Mask<S> {
 impl<S: StepSystem> Mask<S> {
     // Does the mask let both steps through? A string that is no step is sent back before one that is masked.
     fn both_shown(&self, x: &[u8], y: &[u8]) -> Result<(), MaskFault>
-        ensures { result ≡ both_told (masked (names_of self.now.names) (S.transitions self.now.system)) x.now y.now (Ok tt) }
+        ensures { result ≡ both_answer (mask_transitions (names_of self.now.names) (S.transitions self.now.system)) x.now y.now (Ok tt) }
     {
         let first = self.step(x);
         if let Err(MaskFault::Inner(fault)) = first {
@@ -32,11 +32,11 @@ impl<S: StepSystem> Mask<S> {
 }
 
 impl<S: StepSystem> StepSystem for Mask<S> {
-    ghost transitions = { λ m. masked (names_of m.names) (S.transitions m.system) };
+    ghost transitions = { λ m. mask_transitions (names_of m.names) (S.transitions m.system) };
 
-    ghost independence = { λ m. masked_independence (names_of m.names) (S.transitions m.system) (S.independence m.system) };
+    ghost independence = { λ m. mask_independence (names_of m.names) (S.transitions m.system) (S.independence m.system) };
 
-    ghost lawful = { λ m. masked_laws (names_of m.names) (S.transitions m.system) (S.independence m.system) (S.lawful m.system) };
+    ghost lawful = { λ m. mask_laws (names_of m.names) (S.transitions m.system) (S.independence m.system) (S.lawful m.system) };
 
     fn state(&self, state: &[u8]) -> Result<(), MaskFault> {
         self.system.state(state)

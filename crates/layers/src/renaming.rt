@@ -1,8 +1,8 @@
 // A renaming: the system inside, with other names shown.
 ghost use Rattle.std.specs.Prelude.{◌≡◌};
 ghost use Rattle.actions.specs.Contents.{pairs_of};
-ghost use Rattle.layers.specs.Renaming.{with_names};
-ghost use Rattle.layers.specs.RenamingLaws.{renamed_laws};
+ghost use Rattle.layers.specs.Renaming.{renaming_transitions};
+ghost use Rattle.layers.specs.RenamingLaws.{renaming_laws};
 
 use actions::pairs::Pairs;
 use steps::fault::MaskFault;
@@ -17,11 +17,11 @@ pub struct Renaming<S> {
 }
 
 impl<S: StepSystem> StepSystem for Renaming<S> {
-    ghost transitions = { λ r. with_names (pairs_of r.pairs) (S.transitions r.system) };
+    ghost transitions = { λ r. renaming_transitions (pairs_of r.pairs) (S.transitions r.system) };
 
     ghost independence = { λ r. S.independence r.system };
 
-    ghost lawful = { λ r. renamed_laws (pairs_of r.pairs) (S.transitions r.system) (S.independence r.system) (S.lawful r.system) };
+    ghost lawful = { λ r. renaming_laws (pairs_of r.pairs) (S.transitions r.system) (S.independence r.system) (S.lawful r.system) };
 
     fn state(&self, state: &[u8]) -> Result<(), MaskFault> {
         self.system.state(state)
@@ -34,7 +34,7 @@ impl<S: StepSystem> StepSystem for Renaming<S> {
     fn label(&self, step: &[u8]) -> Result<Label, MaskFault> {
         let label = self.system.label(step)?;
         Ok(Label {
-            action: self.pairs.renamed(label.action),
+            action: self.pairs.replacement(label.action),
         })
     }
 

@@ -7,7 +7,7 @@ use Rattle.steps.specs.Meaning.{Str}
 use Rattle.nets.specs.declared.event.Event.{Event}
 use Rattle.nets.specs.declared.event.EventFault.{EventFault}
 use Rattle.nets.specs.declared.event.EventFault.TheVariants.{Full}
-use Rattle.nets.specs.Events.{event_fault, narrow, sound_event, all_sound, add_fault, add_told}
+use Rattle.nets.specs.Events.{event_fault, narrow, sound_event, all_sound, add_fault, add_answer}
 use Rattle.nets.specs.System.{read_event}
 
 pub full : (es : List Event) (e : Event) → 48 ≤ length es → add_fault es e ≡ Some Full
@@ -17,7 +17,7 @@ pub room : (es : List Event) (e : Event) → length es < 48 → add_fault es e �
 room es e h = cond-true (ltb (length es) 48) (event_fault e) (Some Full) (lt-ltb (length es) 48 h)
 
 -- an event that is taken has no fault
-pub faultless : (o : Option EventFault) → Ok tt ≡ add_told o → o ≡ None
+pub faultless : (o : Option EventFault) → Ok tt ≡ add_answer o → o ≡ None
 faultless None e = refl
 faultless (Some f) e = let z : ◌≡◌ {A = ℕ} 0 1 = cc in absurd (omega arith)
 

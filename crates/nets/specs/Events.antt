@@ -38,9 +38,9 @@ abbrev pub add_fault : List Event → Event → Option EventFault
 add_fault es e = cond (nat_lt (length es) event_limit) (event_fault e) (Some Full)
 
 -- what adding an event answers, and the events afterwards
-abbrev pub add_told : Option EventFault → Result (Unit {0}) EventFault
-add_told None = Ok tt
-add_told (Some f) = Err f
+abbrev pub add_answer : Option EventFault → Result (Unit {0}) EventFault
+add_answer None = Ok tt
+add_answer (Some f) = Err f
 
 abbrev pub events_after : Option EventFault → List Event → Event → List Event
 events_after None es e = es ++ e ∷ []

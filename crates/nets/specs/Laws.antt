@@ -124,8 +124,8 @@ module _ (es : List Event) (good : all_sound es ≡ true) where
   pub net_laws : Laws (net_transitions es) (net_independence es)
   net_laws =
       record {
-        states_told = λ s. (λ h. let ok = (nowhere_bad (read_marking s)).0 h in (ok, state_short s ok), λ h. (nowhere_bad (read_marking s)).1 h.0);
-        steps_told = λ x. (λ h. let ok = (nowhere_bad (read_event es x)).0 h.0 in (ok, step_short x ok), λ h. ((nowhere_bad (read_event es x)).1 h.0, refl));
+        state_refusals = λ s. (λ h. let ok = (nowhere_bad (read_marking s)).0 h in (ok, state_short s ok), λ h. (nowhere_bad (read_marking s)).1 h.0);
+        step_refusals = λ x. (λ h. let ok = (nowhere_bad (read_event es x)).0 h.0 in (ok, step_short x ok), λ h. ((nowhere_bad (read_event es x)).1 h.0, refl));
         leads = leads;
         between_steps = λ x y z h. ap is_ok (left_of x y z h).first;
         symmetric = λ x y z h. let l = left_of x y z h in (y, stays l.other l.event y l.second l.first (apart_comm l.other l.event ∙ l.free));

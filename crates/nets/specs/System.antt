@@ -63,10 +63,10 @@ net_independence es =
     }
 
 -- what reading a state, and reading a step, answers
-abbrev pub marking_told : Result ℕ ℕ → Result ℕ MaskFault
-marking_told (Ok m) = Ok m
-marking_told (Err p) = Err (Inner (NoState p))
+abbrev pub marking_answer : Result ℕ ℕ → Result ℕ MaskFault
+marking_answer (Ok m) = Ok m
+marking_answer (Err p) = Err (Inner (NoState p))
 
-abbrev pub event_told : Result Event ℕ → Result Event MaskFault
-event_told (Ok e) = Ok e
-event_told (Err p) = Err (Inner (NoStep p))
+abbrev pub event_answer : Result Event ℕ → Result Event MaskFault
+event_answer (Ok e) = Ok e
+event_answer (Err p) = Err (Inner (NoStep p))

@@ -1,6 +1,6 @@
 // Events of a net: what must hold before one, and what holds after it.
 ghost use Rattle.std.specs.Prelude.{◌≡◌, ℕ, true, ◌↔◌, Some};
-ghost use Rattle.nets.specs.Events.{event_fault, add_told};
+ghost use Rattle.nets.specs.Events.{event_fault, add_answer};
 ghost use Rattle.nets.specs.Firing.{touched, fired, apart, Fires, Apart};
 
 use actions::action::is_action;
@@ -72,7 +72,7 @@ impl Event {
 
     // Whether a net may have the event, or what is wrong with it.
     pub fn check(self) -> Result<(), EventFault>
-        ensures { result ≡ add_told (event_fault self) }
+        ensures { result ≡ add_answer (event_fault self) }
     {
         if !is_action(self.action) {
             return Err(EventFault::NoAction);

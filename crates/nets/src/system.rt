@@ -3,8 +3,8 @@ ghost use Rattle.std.specs.Prelude.{◌≡◌, length};
 ghost use Rattle.nets.specs.Contents.{events_of};
 ghost use Rattle.nets.specs.Marking.{bytes_of};
 ghost use Rattle.nets.specs.System.{net_transitions, net_independence};
-ghost use Rattle.byte_strings.specs.Buffer.{count, kept};
-ghost use Rattle.steps.specs.Told.{state_fits};
+ghost use Rattle.byte_strings.specs.Buffer.{count, buffer_after};
+ghost use Rattle.steps.specs.Answers.{fitting_state};
 ghost use Rattle.nets.specs.Laws.{net_laws};
 
 use crate::marking::read;
@@ -17,8 +17,8 @@ use steps::system::StepSystem;
 
 // Writes a marking over the front of the buffer, and answers its length.
 fn put_marking(marking: u64, out: &mut [u8]) -> Result<usize, MaskFault>
-    ensures answer { result ≡ count (state_fits (bytes_of marking) (length out.old)) }
-    ensures buffer { out.new ≡ kept (state_fits (bytes_of marking) (length out.old)) out.old }
+    ensures answer { result ≡ count (fitting_state (bytes_of marking) (length out.old)) }
+    ensures buffer { out.new ≡ buffer_after (fitting_state (bytes_of marking) (length out.old)) out.old }
 {
     buffer::copy(&marking.to_be_bytes(), out).ok_or(MaskFault::Inner(SystemFault::StateTooLong(8)))
 }

@@ -13,7 +13,7 @@ use Rattle.ccs.specs.Reading.{term_byte, proof_byte, read, read_term, read_proof
 use Rattle.ccs.proofs.Cases.{both_of}
 use Rattle.ccs.proofs.TermReading.{term_is_read, read_is_term}
 use Rattle.ccs.proofs.ProofReading.{proof_is_read, read_is_proof}
-use Rattle.nodes.specs.Whole.{whole, start, whole_fault, split_told}
+use Rattle.nodes.specs.Whole.{whole, start, whole_fault, split_answer}
 use Rattle.nodes.specs.Grammars.{fits_of}
 use Rattle.nodes.specs.Nodes.{NodeOfTerm, NodeOfProof, TermNode, ProofNode}
 use Rattle.nodes.specs.Nodes.NodeOfTerm.{Par, Sum}
@@ -25,9 +25,9 @@ use Rattle.nodes.proofs.Faults.{proof_fault, term_fault}
 use Rattle.nodes.proofs.Split.{first_proof, first_term}
 
 -- a string of two is split behind the first
-split_at : (s r : Str) (o : Result ℕ ℕ) → o ≡ Ok (length s) → split_told o (s ++ r) ≡ Some (s, r)
+split_at : (s r : Str) (o : Result ℕ ℕ) → o ≡ Ok (length s) → split_answer o (s ++ r) ≡ Some (s, r)
 split_at s r o e =
-    ap (λ o. split_told o (s ++ r)) e ∙ cond-true (nat_le (length s) (length (s ++ r))) _ None (le-leb (length s) (length (s ++ r)) (omega (arith, length-append s r)))
+    ap (λ o. split_answer o (s ++ r)) e ∙ cond-true (nat_le (length s) (length (s ++ r))) _ None (le-leb (length s) (length (s ++ r)) (omega (arith, length-append s r)))
     ∙ ap (λ x. Some (x, drop (length s) (s ++ r))) (take_at s r (length s) refl) ∙ ap (λ x. Some (s, x)) (drop_at s r (length s) refl)
 
 -- the node of a string's first byte and the bytes behind it

@@ -2,7 +2,7 @@
 use Rattle.std.specs.Prelude.{ℕ, cond, [], ◌∷◌, Some, None, Option, nat_eq}
 use Rattle.steps.specs.Meaning.{Str}
 use Rattle.ccs.specs.Reading.{term_byte, proof_byte}
-use Rattle.nodes.specs.Whole.{whole, start, split_told}
+use Rattle.nodes.specs.Whole.{whole, start, split_answer}
 use Rattle.nodes.specs.Grammars.{fits_of}
 use Rattle.nodes.specs.Nodes.{NodeOfTerm, NodeOfProof}
 use Rattle.nodes.specs.Nodes.NodeOfTerm.{Nil, Prefix, Par, Sum, Restrict, Call}
@@ -27,7 +27,7 @@ proof_shape kind s =
     cond (nat_eq kind 0x10) (own_only Act s)
     (cond (nat_eq kind 0x11) (Some (Left s))
     (cond (nat_eq kind 0x12) (Some (Right s))
-    (cond (nat_eq kind 0x13) (two_parts Both (split_told (whole (fits_of proof_byte) start s) s))
+    (cond (nat_eq kind 0x13) (two_parts Both (split_answer (whole (fits_of proof_byte) start s) s))
     (cond (nat_eq kind 0x14) (Some (ChooseLeft s))
     (cond (nat_eq kind 0x15) (Some (ChooseRight s))
     (cond (nat_eq kind 0x16) (own_and_part Under s) None))))))
@@ -36,7 +36,7 @@ abbrev pub term_shape : ℕ → ℕ → Str → Option NodeOfTerm
 term_shape n kind s =
     cond (nat_eq kind 0x00) (Some Nil)
     (cond (nat_eq kind 0x01) (own_and_part Prefix s)
-    (cond (nat_eq kind 0x02) (two_parts Par (split_told (whole (fits_of (term_byte n)) start s) s))
-    (cond (nat_eq kind 0x03) (two_parts Sum (split_told (whole (fits_of (term_byte n)) start s) s))
+    (cond (nat_eq kind 0x02) (two_parts Par (split_answer (whole (fits_of (term_byte n)) start s) s))
+    (cond (nat_eq kind 0x03) (two_parts Sum (split_answer (whole (fits_of (term_byte n)) start s) s))
     (cond (nat_eq kind 0x04) (own_and_part Restrict s)
     (cond (nat_eq kind 0x05) (own_only Call s) None)))))

@@ -33,6 +33,6 @@ whole_fault (Ok n) l = cond (nat_lt n l) (Some n) None
 whole_fault (Err p) l = Some p
 
 -- the first term or proof, and what stands behind it
-abbrev pub split_told : Result ℕ ℕ → Str → Option (Str × Str)
-split_told (Ok n) s = cond (nat_le n (length s)) (Some (take n s, drop n s)) None
-split_told (Err p) s = None
+abbrev pub split_answer : Result ℕ ℕ → Str → Option (Str × Str)
+split_answer (Ok n) s = cond (nat_le n (length s)) (Some (take n s, drop n s)) None
+split_answer (Err p) s = None

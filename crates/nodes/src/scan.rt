@@ -2,7 +2,7 @@
 ghost use Rattle.std.specs.Prelude.{◌≡◌, ℕ, ◌+◌, ◌<◌, ◌^◌, Option, length};
 ghost use Rattle.nodes.specs.declared.scan.Wanted.{Wanted};
 ghost use Rattle.byte_strings.specs.Lent.{pair_view};
-ghost use Rattle.nodes.specs.Whole.{at_most_one_more, done, whole, start, whole_fault, split_told};
+ghost use Rattle.nodes.specs.Whole.{at_most_one_more, done, whole, start, whole_fault, split_answer};
 
 // What the next byte has to be: a node's first, or what belongs to the node before it.
 #[derive(Clone, Copy)]
@@ -85,7 +85,7 @@ pub fn fault<G: Grammar>(grammar: &G, bytes: &[u8]) -> Option<usize>
 
 // The first term or proof, and what stands behind it; none where the string begins with none.
 pub(crate) fn split<'a, G: Grammar>(grammar: &G, bytes: &'a [u8]) -> Option<(&'a [u8], &'a [u8])>
-    ensures { pair_view result ≡ split_told (whole (G.fits grammar.now) start bytes.now) bytes.now }
+    ensures { pair_view result ≡ split_answer (whole (G.fits grammar.now) start bytes.now) bytes.now }
 {
     bytes.split_at_checked(first(grammar, bytes).ok()?)
 }

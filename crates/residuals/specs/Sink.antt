@@ -21,5 +21,5 @@ onto s (Some w) = Some (poured s w)
 onto s None = None
 
 -- all, where it is within a limit and a buffer of n bytes; else the length that is needed
-abbrev pub put_told : Sink → ℕ → ℕ → Result Str ℕ
-put_told s limit n = cond (nat_le s.len limit) (cond (nat_le (length s.kept) n) (Ok s.kept) (Err s.len)) (Err s.len)
+abbrev pub put_answer : Sink → ℕ → ℕ → Result Str ℕ
+put_answer s limit n = cond (nat_le s.len limit) (cond (nat_le (length s.kept) n) (Ok s.kept) (Err s.len)) (Err s.len)

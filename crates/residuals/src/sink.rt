@@ -1,7 +1,7 @@
 // Bytes written one behind the other, of which the first 256 are kept and all are counted.
 ghost use Rattle.std.specs.Prelude.{◌≡◌, length};
-ghost use Rattle.byte_strings.specs.Buffer.{count, kept};
-ghost use Rattle.residuals.specs.Sink.{empty, with_byte, poured, put_told};
+ghost use Rattle.byte_strings.specs.Buffer.{count, buffer_after};
+ghost use Rattle.residuals.specs.Sink.{empty, with_byte, poured, put_answer};
 
 use byte_strings::buffer;
 use byte_strings::held::Held;
@@ -51,8 +51,8 @@ impl Sink {
     // Writes all over the front of a buffer and answers the length; the length that is needed, and the buffer as it was, where that is
     // more than the limit or than the buffer has.
     pub fn put(&self, limit: u16, out: &mut [u8]) -> Result<usize, u16>
-        ensures answer { result ≡ count (put_told self.now limit (length out.old)) }
-        ensures buffer { out.new ≡ kept (put_told self.now limit (length out.old)) out.old }
+        ensures answer { result ≡ count (put_answer self.now limit (length out.old)) }
+        ensures buffer { out.new ≡ buffer_after (put_answer self.now limit (length out.old)) out.old }
     {
         if self.len > limit {
             return Err(self.len);

@@ -4,7 +4,7 @@ use Rattle.std.proofs.lemmas.Bool.{cond-true, lt-ltb}
 use Rattle.byte_strings.specs.Buffer.{Str}
 use Rattle.terms.specs.declared.terms.contents.BodyFault.{BodyFault}
 use Rattle.terms.specs.declared.terms.contents.BodyFault.TheVariants.{NoBody}
-use Rattle.terms.specs.Bodies.{body_fault, add_fault, add_told, bodies_after, place_of}
+use Rattle.terms.specs.Bodies.{body_fault, add_fault, add_answer, bodies_after, place_of}
 use Rattle.frame.specs.Frames.{definitions}
 use Rattle.frame.proofs.Places.{definitions-append}
 use Rattle.frame.specs.declared.fault.FrameFault.{FrameFault}
@@ -54,7 +54,7 @@ module _ (n : ℕ) (ss : List Str) (s : Str) (room : length ss < n) where
   told_by : Option BodyFault → Result (Unit {0}) BodyFault
   told_by o = elim o [ None ↦ Ok tt | Some f ↦ Err f ]
 
-  pub taken_fault : Ok tt ≡ add_told n ss s → body_fault n s ≡ None
+  pub taken_fault : Ok tt ≡ add_answer n ss s → body_fault n s ≡ None
   unfolding fault_of told_by
   taken_fault e = go (body_fault n s) (e ∙ ap told_by by_body)
     where
@@ -62,11 +62,11 @@ module _ (n : ℕ) (ss : List Str) (s : Str) (room : length ss < n) where
       go None e = refl
       go (Some k) e = absurd (cc e)
 
-  pub taken_after : Ok tt ≡ add_told n ss s → bodies_after n ss s ≡ ss ++ s ∷ []
+  pub taken_after : Ok tt ≡ add_answer n ss s → bodies_after n ss s ≡ ss ++ s ∷ []
   unfolding fault_of told_by
   taken_after e = ap (λ o. elim o as (λ _. List Str) [ None ↦ ss ++ s ∷ [] | Some f ↦ ss ]) (by_body ∙ ap fault_of (taken_fault e))
 
-  pub refused_fault : (f : BodyFault) → Err f ≡ add_told n ss s → body_fault n s ≡ Some (place_of f)
+  pub refused_fault : (f : BodyFault) → Err f ≡ add_answer n ss s → body_fault n s ≡ Some (place_of f)
   unfolding fault_of told_by
   refused_fault f e = go (body_fault n s) (e ∙ ap told_by by_body)
     where

@@ -4,7 +4,7 @@ use Rattle.std.proofs.lemmas.List.{take_all, take-append-le, length-take-le}
 use Rattle.std.proofs.lemmas.Bool.{cases_lt, ne_eqb, eq-eqb, cond-true, cond-false}
 use Rattle.byte_strings.specs.Buffer.{Str}
 use Rattle.hexadecimal.specs.Digits.{byte_of}
-use Rattle.hexadecimal.specs.Hex.{before, sound, all_or_count, read_told}
+use Rattle.hexadecimal.specs.Hex.{before, sound, all_or_count, read_answer}
 use Rattle.steps.proofs.Answered.{some_not_none}
 use Rattle.server.specs.Text.{text_limit}
 use Rattle.server.specs.Answer.{Model, read_reply, line_reply, reply_length, reply_buffer, reply_model}
@@ -31,7 +31,7 @@ same_test l bs short =
     (λ (within : length l ≤ line_limit). ap (λ t. eqb (length t) (2 * length bs)) (take_all line_limit l within))
     (cases_lt line_limit (length l))
 
-same_read : (l : Str) → read_told (take line_limit l) 1024 ≡ read_told l 1024
+same_read : (l : Str) → read_answer (take line_limit l) 1024 ≡ read_answer l 1024
 same_read l =
     let bytes = sound_take 1024 l in
     let short : length (take 1024 (sound l)) ≤ 1024 = rw length-take (omega arith) in

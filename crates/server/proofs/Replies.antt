@@ -3,7 +3,7 @@ use Rattle.std.proofs.Common.{◌≡◌, ℕ, ◌-◌, ◌≤◌, List, [], ◌�
 use Rattle.std.specs.Result.{IsErrAnd}
 use Rattle.std.proofs.lemmas.List.{take_at, append_assoc, take-append-drop, drop-append-le, length-take, length-append}
 use Rattle.std.proofs.lemmas.Bool.{cond-true, le-leb}
-use Rattle.byte_strings.specs.Buffer.{Str, over, count, kept}
+use Rattle.byte_strings.specs.Buffer.{Str, over, count, buffer_after}
 use Rattle.hexadecimal.specs.Line.{line}
 use Rattle.hexadecimal.proofs.Lines.{length_line}
 use Rattle.steps.specs.declared.fault.Refusal.{Refusal}
@@ -37,12 +37,12 @@ sent_back o f r old e is = tells _ (Call f) r old old (ap (λ w. call_text (answ
 pub step_sent_back : (o : Outcome) (f : BenchFault) (r : Result ℕ Fault) (old : Str) → Err f ≡ count (answered o) → IsErrAnd r (λ e. e ≡ Call f) → Answers (call_text (answered o)) r old old
 step_sent_back o f r old e is = tells _ (Call f) r old old (ap call_text (not_counted (answered o) f e)) refl is
 
-pub print_sent_back : (t : Transitions) (ps : List Page) (s : ℕ) (f : BenchFault) (r : Result ℕ Fault) (old new : Str) → length old ≡ text_limit → Err f ≡ count (answered (on_sheet ps s (printed t (length old)))) → new ≡ kept (answered (on_sheet ps s (printed t (length old)))) old → IsErrAnd r (λ e. e ≡ Call f)
+pub print_sent_back : (t : Transitions) (ps : List Page) (s : ℕ) (f : BenchFault) (r : Result ℕ Fault) (old new : Str) → length old ≡ text_limit → Err f ≡ count (answered (on_sheet ps s (printed t (length old)))) → new ≡ buffer_after (answered (on_sheet ps s (printed t (length old)))) old → IsErrAnd r (λ e. e ≡ Call f)
     → Answers (print_text (answered (on_sheet ps s (printed t text_limit)))) r old new
 print_sent_back t ps s f r old new long e left is =
     let back = not_counted (answered (on_sheet ps s (printed t (length old)))) f e in
     let same = ap (λ n. answered (on_sheet ps s (printed t n))) (sym long) ∙ back in
-    tells _ (Call f) r old new (ap print_text same) (left ∙ ap (λ w. kept w old) back) is
+    tells _ (Call f) r old new (ap print_text same) (left ∙ ap (λ w. buffer_after w old) back) is
 
 -- a text that is in a buffer with room for the longest
 pub written : (text w o now : Str) (n : ℕ) → length now ≡ text_limit → text ≡ w → n ≡ length w → now ≡ over w o → Answers text (Ok n) o now
@@ -51,10 +51,10 @@ written text w o now n long is len left =
     (len ∙ sym (ap length is), left ∙ sym (ap (λ v. over v o) is), omega (arith, ap length left))
 
 -- the line of a string at the front of a buffer that held nothing before
-pub answer_told : (o : Outcome) (n : ℕ) (now old : Str) → Ok n ≡ count (answered o) → now ≡ kept (answered o) old → call_text (answered o) ≡ line (0 ∷ take (n - 0) now)
+pub answer_told : (o : Outcome) (n : ℕ) (now old : Str) → Ok n ≡ count (answered o) → now ≡ buffer_after (answered o) old → call_text (answered o) ≡ line (0 ∷ take (n - 0) now)
 answer_told o n now old told left =
     let c = counted (answered o) n told in
-    let held : now ≡ over c.0 old = left ∙ ap (λ q. kept q old) c.1 in
+    let held : now ≡ over c.0 old = left ∙ ap (λ q. buffer_after q old) c.1 in
     let whole : n - 0 ≡ length c.0 = omega (arith, c.2) in
     let front : take (n - 0) now ≡ c.0 = ap (λ k. take k now) whole ∙ ap (take (length c.0)) held ∙ take_at c.0 (drop (length c.0) old) (length c.0) refl in
     ap call_text c.1 ∙ ap (λ w. line (0 ∷ w)) (sym front)

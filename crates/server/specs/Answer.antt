@@ -1,7 +1,7 @@
 -- What the server answers to a line, and what it keeps afterwards. Assumes nothing.
 use Rattle.std.specs.Prelude.{ℕ, cond, List, [], ◌∷◌, length, Some, None, Ok, Err, Option, Result, nat_le}
 use Rattle.byte_strings.specs.Buffer.{Str, over}
-use Rattle.hexadecimal.specs.Hex.{read_told}
+use Rattle.hexadecimal.specs.Hex.{read_answer}
 use Rattle.hexadecimal.specs.Line.{line}
 use Rattle.steps.specs.Meaning.{Transitions, Independence}
 use Rattle.bench.specs.Page.{Page}
@@ -17,11 +17,11 @@ use Rattle.frame.specs.declared.fault.FrameFault.TheVariants.{Malformed}
 use Rattle.frame.specs.Refusals.{frame_refusal}
 use Rattle.frame.specs.Frames.{FrameView}
 use Rattle.frame.specs.Frames.FrameView.{setup, open_sheet, add, swap, withdraw, join, release, reopen, print, look}
-use Rattle.frame.specs.Reading.{frame_told}
+use Rattle.frame.specs.Reading.{frame_answer}
 use Rattle.server.specs.declared.server.Server.{Server}
 use Rattle.server.specs.Text.{refusal_line, call_text, print_text, text_limit}
 use Rattle.server.specs.Layered.{Layered, layered_of, layered_transitions, layered_independence}
-use Rattle.server.specs.LayeredSetup.{layered_told}
+use Rattle.server.specs.LayeredSetup.{layered_answer}
 
 -- the system, and the four sheets
 pub record Model : Type 0 where
@@ -67,7 +67,7 @@ abbrev pub reworking_of : Model → Independence
 reworking_of m = layered_independence m.system
 
 abbrev pub frame_reply : Model → FrameView → Reply
-frame_reply m (setup pairs names system) = setup_reply m (layered_told pairs names system)
+frame_reply m (setup pairs names system) = setup_reply m (layered_answer pairs names system)
 frame_reply m (open_sheet s state) = sheet_reply m s (on_sheet m.pages s (opened (system_of m) state))
 frame_reply m (add s step) = sheet_reply m s (on_sheet m.pages s (added (system_of m) step 256))
 frame_reply m (swap s place) = sheet_reply m s (on_sheet m.pages s (swapped (system_of m) (reworking_of m) place))
@@ -85,11 +85,11 @@ bytes_reply m (Err f) = refused m f
 
 -- a line
 abbrev pub read_reply : Model → Result Str ℕ → Reply
-read_reply m (Ok bytes) = bytes_reply m (frame_told bytes)
+read_reply m (Ok bytes) = bytes_reply m (frame_answer bytes)
 read_reply m (Err place) = refused m (Malformed place)
 
 abbrev pub line_reply : Model → Str → Reply
-line_reply m l = read_reply m (read_told l 1024)
+line_reply m l = read_reply m (read_answer l 1024)
 
 -- what is answered, left in a buffer and kept, where the buffer has room for the longest text; else nothing is done
 abbrev pub reply_length : Reply → ℕ → Option ℕ

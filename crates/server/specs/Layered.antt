@@ -7,8 +7,8 @@ use Rattle.systems.specs.declared.terms_or_net.TermsOrNet.{TermsOrNet}
 use Rattle.systems.specs.Design.{Design, design_of, transitions_of, independence_of}
 use Rattle.layers.specs.declared.mask.Mask.{Mask}
 use Rattle.layers.specs.declared.renaming.Renaming.{Renaming}
-use Rattle.layers.specs.Mask.{masked, masked_independence}
-use Rattle.layers.specs.Renaming.{with_names}
+use Rattle.layers.specs.Mask.{mask_transitions, mask_independence}
+use Rattle.layers.specs.Renaming.{renaming_transitions}
 
 pub record Layered : Type 0 where
   pub design : Design
@@ -20,10 +20,10 @@ layered_of m = record { design = design_of m.system.system; pairs = pairs_of m.s
 
 -- what a step shows below the mask is renamed
 abbrev pub renamed_transitions : Layered → Transitions
-renamed_transitions l = with_names l.pairs (transitions_of l.design)
+renamed_transitions l = renaming_transitions l.pairs (transitions_of l.design)
 
 abbrev pub layered_transitions : Layered → Transitions
-layered_transitions l = masked l.names (renamed_transitions l)
+layered_transitions l = mask_transitions l.names (renamed_transitions l)
 
 abbrev pub layered_independence : Layered → Independence
-layered_independence l = masked_independence l.names (renamed_transitions l) (independence_of l.design)
+layered_independence l = mask_independence l.names (renamed_transitions l) (independence_of l.design)

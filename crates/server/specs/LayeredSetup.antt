@@ -6,11 +6,11 @@ use Rattle.layers.specs.declared.mask.Mask.{Mask}
 use Rattle.layers.specs.declared.renaming.Renaming.{Renaming}
 use Rattle.frame.specs.declared.fault.FrameFault.{FrameFault}
 use Rattle.frame.specs.Frames.{SystemView, first_place}
-use Rattle.server.specs.DesignSetup.{design_told}
+use Rattle.server.specs.DesignSetup.{design_answer}
 use Rattle.server.specs.Layered.{Layered, layered_of}
 
-abbrev pub layered_told : List Pair → List ℕ → SystemView → Result Layered FrameFault
-layered_told pairs names system = elim (design_told (first_place pairs names) system) [ Ok d ↦ Ok (record { design = d; pairs = pairs; names = names }) | Err f ↦ Err f ]
+abbrev pub layered_answer : List Pair → List ℕ → SystemView → Result Layered FrameFault
+layered_answer pairs names system = elim (design_answer (first_place pairs names) system) [ Ok d ↦ Ok (record { design = d; pairs = pairs; names = names }) | Err f ↦ Err f ]
 
 -- what was made, or why it was not
 abbrev pub layered_view : Result (Mask (Renaming TermsOrNet)) FrameFault → Result Layered FrameFault

@@ -23,8 +23,8 @@ given start n front [] = Ok front
 given start n front (b ∷ bs) = elim (body_fault n b) [ None ↦ given start n (front ++ b ∷ []) bs | Some k ↦ Err (BadSetup (behind start front + k)) ]
 
 -- the terms of a setup with these bodies; else the place of the first byte that fits no body
-abbrev pub terms_told : ℕ → List Str → Result (List Term) FrameFault
-terms_told start bodies = elim (given start (length bodies) [] bodies) [ Ok ss ↦ Ok (terms_in (length bodies) ss) | Err f ↦ Err f ]
+abbrev pub terms_answer : ℕ → List Str → Result (List Term) FrameFault
+terms_answer start bodies = elim (given start (length bodies) [] bodies) [ Ok ss ↦ Ok (terms_in (length bodies) ss) | Err f ↦ Err f ]
 
 -- what was made, by its definitions
 abbrev pub terms_view : Result Terms FrameFault → Result (List Term) FrameFault
@@ -37,4 +37,4 @@ pub data GivesTerms (start : ℕ) (bodies : List Str) : Result (List Term) Frame
   broken : (front back : List Str) (b : Str) (k : ℕ) → bodies ≡ front ++ b ∷ back → All (IsBody (length bodies)) front → BodyFaultAt (length bodies) b k → GivesTerms start bodies (Err (BadSetup (behind start front + k)))
 
 abbrev pub SetupsGiveTerms : Type 0
-SetupsGiveTerms = (start : ℕ) (bodies : List Str) → GivesTerms start bodies (terms_told start bodies)
+SetupsGiveTerms = (start : ℕ) (bodies : List Str) → GivesTerms start bodies (terms_answer start bodies)

@@ -6,7 +6,7 @@ ghost use Rattle.actions.specs.Contents.{names_of, pairs_of};
 ghost use Rattle.frame.specs.Reading.{setup_view};
 ghost use Rattle.frame.specs.Systems.{system_view};
 ghost use Rattle.server.specs.Layered.{layered_of};
-ghost use Rattle.server.specs.LayeredSetup.{layered_told, layered_view};
+ghost use Rattle.server.specs.LayeredSetup.{layered_answer, layered_view};
 
 use actions::names::Names;
 use actions::pairs::Pairs;
@@ -31,7 +31,7 @@ pub(crate) fn layered(system: TermsOrNet, pairs: Pairs, names: Names) -> Mask<Re
 // Makes the terms or the net with its renaming and its mask, or refuses the first body or event that breaks a rule.
 pub(crate) fn build(setup: &Setup<'_>) -> Result<Mask<Renaming<TermsOrNet>>, FrameFault>
     requires { WithinRules (setup_view setup.now) }
-    ensures { layered_view result ≡ layered_told (pairs_of setup.now.pairs) (names_of setup.now.names) (system_view setup.now.system) }
+    ensures { layered_view result ≡ layered_answer (pairs_of setup.now.pairs) (names_of setup.now.names) (system_view setup.now.system) }
 {
     let system = design::build(&setup.system)?;
     Ok(layered(system, setup.pairs, setup.names))

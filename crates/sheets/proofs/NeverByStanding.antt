@@ -6,17 +6,17 @@ use Rattle.steps.specs.Meaning.{Str, Transitions, Independence}
 use Rattle.steps.specs.declared.fault.MaskFault.{MaskFault}
 use Rattle.steps.specs.declared.fault.MaskFault.TheVariants.{Masked, Inner}
 use Rattle.steps.specs.declared.fault.SystemFault.TheVariants.{NoState, NoStep, Impossible, StateTooLong, StepTooLong}
-use Rattle.steps.specs.Told.{state_told, next_told, state_fits}
-use Rattle.joins.specs.Exchange.{Pair, exchanged_told}
+use Rattle.steps.specs.Answers.{state_answer, next_answer, fitting_state}
+use Rattle.joins.specs.Exchange.{Pair, exchange_answer}
 use Rattle.bench.specs.declared.fault.BenchFault.{BenchFault}
 use Rattle.bench.specs.declared.fault.BenchFault.TheVariants.{WrongStanding, System, StartsDiffer, Stopped}
 use Rattle.bench.specs.declared.sheet.Standing.{Standing}
 use Rattle.bench.specs.declared.sheet.Standing.TheVariants.{Blank, Open, Released}
 use Rattle.bench.specs.Page.{Page, steps_of}
-use Rattle.bench.specs.Replay.{followed, replayed, end_told}
+use Rattle.bench.specs.Replay.{followed, replayed, end_answer}
 use Rattle.bench.specs.Calls.{Outcome, answered, accepted, then, from_system, when_open, when_released, added, withdrawn, released, reopened}
 use Rattle.bench.specs.Swap.{exchanged_on, swapped}
-use Rattle.bench.specs.Join.{led, alike, fitting, surviving, unless_blank, pair_told, joined}
+use Rattle.bench.specs.Join.{led, alike, fitting, surviving, unless_blank, pair_answer, joined}
 use Rattle.bench.specs.Print.{sheet_text, printed}
 use Rattle.bench.specs.Look.{when_begun, looked}
 use Rattle.sheets.specs.Standing.{NotByStanding}
@@ -47,14 +47,14 @@ either false r s h i = i
 
 steps_followed : (t : Transitions) (a : Str) (xs : List Str) (k : ℕ) → Fair (followed t a xs k)
 steps_followed t a [] k = tt
-steps_followed t a (x ∷ xs) k = go (next_told t a x 256) (λ b. steps_followed t b xs (k + 1))
+steps_followed t a (x ∷ xs) k = go (next_answer t a x 256) (λ b. steps_followed t b xs (k + 1))
   where
     go : (r : Result Str MaskFault) → ((b : Str) → Fair (followed t b xs (k + 1))) → Fair (elim r as (λ _. Result Str BenchFault) [ Ok b ↦ followed t b xs (k + 1) | Err f ↦ Err (Stopped k f) ])
     go (Ok b) h = h b
     go (Err f) h = omega arith
 
 steps_replayed : (t : Transitions) (a : Str) (xs : List Str) → Fair (replayed t a xs)
-steps_replayed t a xs = go (state_told t a)
+steps_replayed t a xs = go (state_answer t a)
   where
     go : (r : Result (Unit {0}) MaskFault) → Fair (elim r as (λ _. Result Str BenchFault) [ Ok _ ↦ followed t a xs 1 | Err f ↦ Err (Stopped 0 f) ])
     go (Ok u) = steps_followed t a xs 1
@@ -85,8 +85,8 @@ module _ (p : Page) (o : Outcome) (h : Fair o) where
 
 module _ (t : Transitions) (p : Page) where
   -- from the end of a sheet on
-  from_end : {A : Type 0} (k : Str → Result A BenchFault) → ((a : Str) → Fair (k a)) → Fair (then (end_told t p) k)
-  from_end k h = after_all (end_told t p) k (steps_replayed t p.start (steps_of p)) h
+  from_end : {A : Type 0} (k : Str → Result A BenchFault) → ((a : Str) → Fair (k a)) → Fair (then (end_answer t p) k)
+  from_end k h = after_all (end_answer t p) k (steps_replayed t p.start (steps_of p)) h
 
   -- a look at a sheet that is not blank
   pub look_fair : (k n : ℕ) → (p.standing ≡ Blank → ⊥) → Fair (looked t k n p)
@@ -95,7 +95,7 @@ module _ (t : Transitions) (p : Page) where
       (from_end _ (λ _.
       either (leb k p.len) _ _
       (after_all (replayed t p.start (take k p.rows)) _ (steps_replayed t p.start (take k p.rows)) (λ a.
-      after_all (from_system (state_fits a n)) _ (of_system (state_fits a n)) (λ _. tt)))
+      after_all (from_system (fitting_state a n)) _ (of_system (fitting_state a n)) (λ _. tt)))
       (omega arith)))
       begun
 
@@ -106,7 +106,7 @@ module _ (t : Transitions) (p : Page) where
         if_open p _
         (from_end _ (λ a.
         either (ltb p.len 32) _ _
-        (after_all (from_system (next_told t a x n)) _ (of_system (next_told t a x n)) (λ _. tt))
+        (after_all (from_system (next_answer t a x n)) _ (of_system (next_answer t a x n)) (λ _. tt))
         (omega arith)))
         is
 
@@ -116,7 +116,7 @@ module _ (t : Transitions) (p : Page) where
         (from_end _ (λ _.
         either (ltb 0 p.len) _ _
         (after_all (replayed t p.start (take (p.len - 1) p.rows)) _ (steps_replayed t p.start (take (p.len - 1) p.rows)) (λ a.
-        after_all (from_system (state_fits a n)) _ (of_system (state_fits a n)) (λ _. tt)))
+        after_all (from_system (fitting_state a n)) _ (of_system (fitting_state a n)) (λ _. tt)))
         (omega arith)))
         is
 
@@ -125,14 +125,14 @@ module _ (t : Transitions) (p : Page) where
     exchanged_fair n (Ok None) = omega arith
     exchanged_fair n (Ok (Some x)) =
         after_all (replayed t p.start (take (n - 1) p.rows)) _ (steps_replayed t p.start (take (n - 1) p.rows)) (λ a.
-        after_all (from_system (next_told t a x.first 256)) _ (of_system (next_told t a x.first 256)) (λ _. tt))
+        after_all (from_system (next_answer t a x.first 256)) _ (of_system (next_answer t a x.first 256)) (λ _. tt))
 
     pub swap_fair : (i : Independence) (n : ℕ) → Fair (swapped t i n p)
     swap_fair i n =
         if_open p _
         (from_end _ (λ _.
         either (ltb 0 n && ltb n p.len) _ _
-        (exchanged_fair n (exchanged_told i (get_or p.rows (n - 1) []) (get_or p.rows n [])))
+        (exchanged_fair n (exchange_answer i (get_or p.rows (n - 1) []) (get_or p.rows n [])))
         (omega arith)))
         is
 
@@ -144,7 +144,7 @@ module _ (t : Transitions) (p : Page) where
         (omega arith)
 
     alike_fair : (e : Page) → Fair (alike t p e)
-    alike_fair e = from_end _ (λ a. after_all (end_told t e) _ (steps_replayed t e.start (steps_of e)) (λ _. either (bytes_eq p.start e.start) (Ok a) (Err StartsDiffer) tt (omega arith)))
+    alike_fair e = from_end _ (λ a. after_all (end_answer t e) _ (steps_replayed t e.start (steps_of e)) (λ _. either (bytes_eq p.start e.start) (Ok a) (Err StartsDiffer) tt (omega arith)))
 
     pub join_fair : (i : Independence) (e : Page) → (e.standing ≡ Blank → ⊥) → Fair (joined t i (Some e) p)
     join_fair i e n =
@@ -195,9 +195,9 @@ module _ (o : Outcome) (h : Fair o) where
   pub fair_fault : (f : BenchFault) → Err f ≡ accepted o → NotByStanding f
   fair_fault f e = fair_accept (Err f) e
 
-  pub fair_pair : (r : Result (ℕ × ℕ) BenchFault) → pair_told r ≡ answered o → Fair r
+  pub fair_pair : (r : Result (ℕ × ℕ) BenchFault) → pair_answer r ≡ answered o → Fair r
   fair_pair r e = go r (subst (λ s. Fair s) (sym e) fair_answered)
     where
-      go : (r : Result (ℕ × ℕ) BenchFault) → Fair (pair_told r) → Fair r
+      go : (r : Result (ℕ × ℕ) BenchFault) → Fair (pair_answer r) → Fair r
       go (Ok (n, k)) h = tt
       go (Err f) h = h

@@ -12,7 +12,7 @@ use Rattle.sheets.specs.declared.any_sheet.AnySheet.{AnySheet}
 use Rattle.sheets.specs.declared.any_sheet.AnySheet.TheVariants as any
 use Rattle.sheets.specs.declared.open_sheet.OpenSheet.{OpenSheet}
 use Rattle.sheets.specs.declared.released_sheet.ReleasedSheet.{ReleasedSheet}
-use Rattle.sheets.specs.Pages.{open_page, released_page, any_page, page_told}
+use Rattle.sheets.specs.Pages.{open_page, released_page, any_page, page_answer}
 
 -- a sheet of one of the types is not blank
 pub open_not_blank : (s : OpenSheet) → (open_page s).standing ≡ Blank → ⊥
@@ -43,10 +43,10 @@ same_released a b e = go b.sheet e b.released
     go s e = subst (λ s. (is : (page_of s).standing ≡ Released) → a ≡ record { sheet = s; released = is }) e (λ is. ap (λ (is : (page_of a.sheet).standing ≡ Released). record { sheet = a.sheet; released = is }) (one_way a.sheet Released a.released is))
 
 -- a call that only changes the standing: the page that it leaves, or why it is refused
-pub left_page : (o : Outcome) (p q : Page) → Ok tt ≡ accepted o → q ≡ after o p → Ok q ≡ page_told o
+pub left_page : (o : Outcome) (p q : Page) → Ok tt ≡ accepted o → q ≡ after o p → Ok q ≡ page_answer o
 left_page (Ok d) p q a e = ap Ok e
 left_page (Err f) p q a e = ok_not_err tt f a
 
-pub left_fault : (o : Outcome) (f : BenchFault) → Err f ≡ accepted o → Err f ≡ page_told o
+pub left_fault : (o : Outcome) (f : BenchFault) → Err f ≡ accepted o → Err f ≡ page_answer o
 left_fault (Ok d) f a = ok_not_err tt f (sym a)
 left_fault (Err g) f a = ap Err (cc)

@@ -20,19 +20,19 @@ any_page (any.Open s) = open_page s.now
 any_page (any.Released s) = released_page s.now
 
 -- the page that a call leaves, or why it is refused
-abbrev pub page_told : Outcome → Result Page BenchFault
-page_told (Ok d) = Ok d.page
-page_told (Err f) = Err f
+abbrev pub page_answer : Outcome → Result Page BenchFault
+page_answer (Ok d) = Ok d.page
+page_answer (Err f) = Err f
 
 -- the page of the sheet that is given out, or why none is
-abbrev pub start_told : Result OpenSheet BenchFault → Result Page BenchFault
-start_told (Ok s) = Ok (open_page s)
-start_told (Err f) = Err f
+abbrev pub start_answer : Result OpenSheet BenchFault → Result Page BenchFault
+start_answer (Ok s) = Ok (open_page s)
+start_answer (Err f) = Err f
 
-abbrev pub release_told : Result ReleasedSheet (Refused OpenSheet) → Result Page BenchFault
-release_told (Ok s) = Ok (released_page s)
-release_told (Err r) = Err r.fault
+abbrev pub release_answer : Result ReleasedSheet (Refused OpenSheet) → Result Page BenchFault
+release_answer (Ok s) = Ok (released_page s)
+release_answer (Err r) = Err r.fault
 
-abbrev pub reopen_told : Result OpenSheet (Refused ReleasedSheet) → Result Page BenchFault
-reopen_told (Ok s) = Ok (open_page s)
-reopen_told (Err r) = Err r.fault
+abbrev pub reopen_answer : Result OpenSheet (Refused ReleasedSheet) → Result Page BenchFault
+reopen_answer (Ok s) = Ok (open_page s)
+reopen_answer (Err r) = Err r.fault

@@ -11,8 +11,8 @@ step_limit = 64
 
 pub record Laws (t : Transitions) (i : Independence) : Type 0 where
   -- a string is refused as a state exactly where it is none, or is too long; a step likewise
-  pub states_told : (s : Str) → (t.bad_state s ≡ None) ↔ ((t.state s ≡ true) × (length s ≤ state_limit))
-  pub steps_told : (x : Str) → ((t.bad_step x ≡ None) × (t.hidden x ≡ false)) ↔ ((t.step x ≡ true) × (length x ≤ step_limit))
+  pub state_refusals : (s : Str) → (t.bad_state s ≡ None) ↔ ((t.state s ≡ true) × (length s ≤ state_limit))
+  pub step_refusals : (x : Str) → ((t.bad_step x ≡ None) × (t.hidden x ≡ false)) ↔ ((t.step x ≡ true) × (length x ≤ step_limit))
   -- a step leads from a state to a state
   pub leads : (a x b : Str) → t.next a x ≡ Ok b → (t.state a ≡ true) × (t.step x ≡ true) × (t.state b ≡ true)
   -- only steps are independent, of each other, and never of themselves

@@ -1,4 +1,4 @@
 pub mod Meaning
 pub mod Laws
 pub mod Refusals
-pub mod Told
+pub mod Answers

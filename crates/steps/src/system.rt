@@ -2,8 +2,8 @@
 ghost use Rattle.std.specs.Prelude.{◌≡◌, length};
 ghost use Rattle.steps.specs.Meaning.{Transitions, Independence};
 ghost use Rattle.steps.specs.Laws.{Laws};
-ghost use Rattle.byte_strings.specs.Buffer.{count, kept, count_some, kept_some};
-ghost use Rattle.steps.specs.Told.{state_told, step_told, label_told, next_told, independent_told, left_told, back_told};
+ghost use Rattle.byte_strings.specs.Buffer.{count, buffer_after, count_some, buffer_after_some};
+ghost use Rattle.steps.specs.Answers.{state_answer, step_answer, label_answer, next_answer, independent_answer, left_answer, back_answer};
 
 use crate::fault::MaskFault;
 use crate::label::Label;
@@ -17,34 +17,34 @@ pub trait StepSystem {
 
     // Is it a state?
     fn state(&self, state: &[u8]) -> Result<(), MaskFault>
-        ensures { result ≡ state_told (transitions self.now) state.now };
+        ensures { result ≡ state_answer (transitions self.now) state.now };
 
     // Is it a step?
     fn step(&self, step: &[u8]) -> Result<(), MaskFault>
-        ensures { result ≡ step_told (transitions self.now) step.now };
+        ensures { result ≡ step_answer (transitions self.now) step.now };
 
     // What does the step show?
     fn label(&self, step: &[u8]) -> Result<Label, MaskFault>
-        ensures { result ≡ label_told (transitions self.now) step.now };
+        ensures { result ≡ label_answer (transitions self.now) step.now };
 
     // Which state follows by the step? Its length, with the state at the front of `out`.
     fn next(&self, state: &[u8], step: &[u8], out: &mut [u8]) -> Result<usize, MaskFault>
-        ensures answer { result ≡ count (next_told (transitions self.now) state.now step.now (length out.old)) }
-        ensures buffer { out.new ≡ kept (next_told (transitions self.now) state.now step.now (length out.old)) out.old };
+        ensures answer { result ≡ count (next_answer (transitions self.now) state.now step.now (length out.old)) }
+        ensures buffer { out.new ≡ buffer_after (next_answer (transitions self.now) state.now step.now (length out.old)) out.old };
 
     // Are the two steps independent?
     fn independent(&self, x: &[u8], y: &[u8]) -> Result<bool, MaskFault>
-        ensures { result ≡ independent_told (transitions self.now) (independence self.now) x.now y.now };
+        ensures { result ≡ independent_answer (transitions self.now) (independence self.now) x.now y.now };
 
     // What is left of x after y? Its length, with the step at the front of `out`; none where they are dependent.
     fn residual(&self, x: &[u8], y: &[u8], out: &mut [u8]) -> Result<Option<usize>, MaskFault>
-        ensures answer { result ≡ count_some (left_told (transitions self.now) (independence self.now) x.now y.now (length out.old)) }
-        ensures buffer { out.new ≡ kept_some (left_told (transitions self.now) (independence self.now) x.now y.now (length out.old)) out.old };
+        ensures answer { result ≡ count_some (left_answer (transitions self.now) (independence self.now) x.now y.now (length out.old)) }
+        ensures buffer { out.new ≡ buffer_after_some (left_answer (transitions self.now) (independence self.now) x.now y.now (length out.old)) out.old };
 
     // Which step, independent of x, has z left after x? Its length, with the step at the front of `out`, or that there is none.
     fn back(&self, x: &[u8], z: &[u8], out: &mut [u8]) -> Result<Option<usize>, MaskFault>
-        ensures answer { result ≡ count_some (back_told (transitions self.now) (independence self.now) x.now z.now (length out.old)) }
-        ensures buffer { out.new ≡ kept_some (back_told (transitions self.now) (independence self.now) x.now z.now (length out.old)) out.old };
+        ensures answer { result ≡ count_some (back_answer (transitions self.now) (independence self.now) x.now z.now (length out.old)) }
+        ensures buffer { out.new ≡ buffer_after_some (back_answer (transitions self.now) (independence self.now) x.now z.now (length out.old)) out.old };
 
     ghost lawful: { (m : Self) → Laws (transitions m) (independence m) };
 }

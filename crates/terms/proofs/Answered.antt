@@ -8,7 +8,7 @@ use Rattle.steps.specs.declared.fault.MaskFault.{MaskFault}
 use Rattle.steps.specs.declared.fault.MaskFault.TheVariants.{Inner}
 use Rattle.steps.specs.declared.fault.SystemFault.{SystemFault}
 use Rattle.steps.specs.declared.fault.SystemFault.TheVariants.{NoState, NoStep, Impossible, StateTooLong, StepTooLong}
-use Rattle.steps.specs.Told.{first, told_length, state_fits, moved, next_told, both_told, step_fits, left_told, back_told}
+use Rattle.steps.specs.Answers.{first, told_length, fitting_state, move_answer, next_answer, both_answer, fitting_step, left_answer, back_answer}
 use Rattle.ccs.specs.Syntax.{Term, Proof}
 use Rattle.ccs.specs.Spelling.{term_bytes}
 use Rattle.ccs.specs.Improper.{improper, or_else}
@@ -16,7 +16,7 @@ use Rattle.ccs.specs.Reading.{read_term, read_proof}
 use Rattle.ccs.specs.Residual.{residual, origin}
 use Rattle.ccs.specs.System.{past, improper_of, if_proper, proper_only, read_step, spelled_term, go_on, of_both, terms_transitions, terms_independence}
 use Rattle.residuals.specs.declared.sink.Sink.{Sink}
-use Rattle.residuals.specs.Sink.{empty, poured, onto, put_told}
+use Rattle.residuals.specs.Sink.{empty, poured, onto, put_answer}
 use Rattle.residuals.specs.Steps.{residual_of, origin_of}
 use Rattle.residuals.proofs.Poured.{sink_holds}
 use Rattle.terms.specs.Follow.{followed_by, followed, onto_term}
@@ -47,8 +47,8 @@ pub back_is : (x z : Str) → Ok tt ≡ step_checked x → Ok tt ≡ step_checke
 back_is x z e f = ap₂ (of_both origin) (checked_step x e) (checked_step z f)
 
 -- a string in a sink, where it fits a limit and a buffer
-put_is : (w : Str) (limit n : ℕ) → limit ≤ 256 → put_told (poured empty w) limit n ≡ cond (nat_le (length w) (min n limit)) (Ok w) (Err (told_length (length w)))
-put_is w limit n small = ap (λ s. put_told s limit n) (sink_holds w) ∙ by_limit (nat_le (length w) limit) refl
+put_is : (w : Str) (limit n : ℕ) → limit ≤ 256 → put_answer (poured empty w) limit n ≡ cond (nat_le (length w) (min n limit)) (Ok w) (Err (told_length (length w)))
+put_is w limit n small = ap (λ s. put_answer s limit n) (sink_holds w) ∙ by_limit (nat_le (length w) limit) refl
   where
     within : length w ≤ limit → (c : Bool) → nat_le (length w) n ≡ c → cond (nat_le (min (length w) 65535) limit) (cond (nat_le (length (take 256 w)) n) (Ok (take 256 w)) (Err (min (length w) 65535))) (Err (min (length w) 65535)) ≡ cond (nat_le (length w) (min n limit)) (Ok w) (Err (min (length w) 65535))
     within few c e =
@@ -67,7 +67,7 @@ put_is w limit n small = ap (λ s. put_told s limit n) (sink_holds w) ∙ by_lim
         let long = leb-false (length w) limit e in
         cond-false (nat_le (min (length w) 65535) limit) _ _ (lt-leb _ _ (omega (arith, long, small))) ∙ sym (cond-false (nat_le (length w) (min n limit)) _ _ (lt-leb _ _ (omega (arith, long))))
 
-pub step_put_is : (o : Option Str) (n : ℕ) → step_put (onto empty o) n ≡ step_fits o n
+pub step_put_is : (o : Option Str) (n : ℕ) → step_put (onto empty o) n ≡ fitting_step o n
 step_put_is None n = refl
 step_put_is (Some w) n = ap (λ r. elim r as (λ _. Result (Option Str) MaskFault) [ Ok w ↦ Ok (Some w) | Err k ↦ Err (Inner (StepTooLong k)) ]) (put_is w 64 n (omega arith)) ∙ go (nat_le (length w) (min n 64))
   where
@@ -75,7 +75,7 @@ step_put_is (Some w) n = ap (λ r. elim r as (λ _. Result (Option Str) MaskFaul
     go true = refl
     go false = refl
 
-state_put_is : (w : Str) (n : ℕ) → state_put (poured empty w) n ≡ state_fits w n
+state_put_is : (w : Str) (n : ℕ) → state_put (poured empty w) n ≡ fitting_state w n
 state_put_is w n = ap (λ r. elim r as (λ _. Result Str MaskFault) [ Ok w ↦ Ok w | Err k ↦ Err (Inner (StateTooLong k)) ]) (put_is w 256 n (omega arith)) ∙ go (nat_le (length w) (min n 256))
   where
     go : (c : Bool) → elim (cond c (Ok w) (Err (told_length (length w)))) as (λ _. Result Str MaskFault) [ Ok w ↦ Ok w | Err k ↦ Err (Inner (StateTooLong k)) ] ≡ cond c (Ok w) (Err (Inner (StateTooLong (told_length (length w)))))
@@ -88,44 +88,44 @@ module _ (ds : List Term) where
   not_refused f None r e = refl
   not_refused f (Some k) r e = absurd (cc e)
 
-  next_asked : (a x : Str) (n : ℕ) → Ok tt ≡ step_checked x → Ok tt ≡ state_checked ds a → next_told (terms_transitions ds) a x n ≡ moved (spelled_term (followed ds a x)) n
+  next_asked : (a x : Str) (n : ℕ) → Ok tt ≡ step_checked x → Ok tt ≡ state_checked ds a → next_answer (terms_transitions ds) a x n ≡ move_answer (spelled_term (followed ds a x)) n
   next_asked a x n e f =
       not_refused (λ p. Inner (NoStep p)) ((terms_transitions ds).bad_step x) _ (unrefused NoStep _ e)
       ∙ not_refused (λ p. Inner (NoState p)) ((terms_transitions ds).bad_state a) _ (unrefused NoState _ f)
-      ∙ ap (λ r. moved r n) (ap (go_on ds (read_term (length ds) a)) (checked_step x e) ∙ go (read_term (length ds) a) (read_proof x))
+      ∙ ap (λ r. move_answer r n) (ap (go_on ds (read_term (length ds) a)) (checked_step x e) ∙ go (read_term (length ds) a) (read_proof x))
     where
       go : (r : Result Term ℕ) (z : Result Proof ℕ) → go_on ds r z ≡ spelled_term (followed_by ds r z)
       go (Ok p) (Ok t) = refl
       go (Ok p) (Err k) = refl
       go (Err k) z = refl
 
-  pub next_told_is : (a x : Str) (n : ℕ) (k : Sink) → Ok tt ≡ step_checked x → Ok tt ≡ state_checked ds a → Ok k ≡ onto_term empty (followed ds a x) → state_put k n ≡ next_told (terms_transitions ds) a x n
+  pub next_told_is : (a x : Str) (n : ℕ) (k : Sink) → Ok tt ≡ step_checked x → Ok tt ≡ state_checked ds a → Ok k ≡ onto_term empty (followed ds a x) → state_put k n ≡ next_answer (terms_transitions ds) a x n
   unfolding onto_term
   next_told_is a x n k e f g = go (followed ds a x) g ∙ sym (next_asked a x n e f)
     where
-      go : (r : Result Term ℕ) → Ok k ≡ onto_term empty r → state_put k n ≡ moved (spelled_term r) n
+      go : (r : Result Term ℕ) → Ok k ≡ onto_term empty r → state_put k n ≡ move_answer (spelled_term r) n
       go (Ok p) g = let same : k ≡ poured empty (term_bytes p) = cc g in ap (λ k. state_put k n) same ∙ state_put_is (term_bytes p) n
       go (Err j) g = absurd (cc g)
 
-  pub next_fault_is : (a x : Str) (n j : ℕ) → Ok tt ≡ step_checked x → Ok tt ≡ state_checked ds a → Err j ≡ onto_term empty (followed ds a x) → Err (Inner (Impossible j)) ≡ next_told (terms_transitions ds) a x n
+  pub next_fault_is : (a x : Str) (n j : ℕ) → Ok tt ≡ step_checked x → Ok tt ≡ state_checked ds a → Err j ≡ onto_term empty (followed ds a x) → Err (Inner (Impossible j)) ≡ next_answer (terms_transitions ds) a x n
   unfolding onto_term
   next_fault_is a x n j e f g = go (followed ds a x) g ∙ sym (next_asked a x n e f)
     where
-      go : (r : Result Term ℕ) → Err j ≡ onto_term empty r → Err (Inner (Impossible j)) ≡ moved (spelled_term r) n
+      go : (r : Result Term ℕ) → Err j ≡ onto_term empty r → Err (Inner (Impossible j)) ≡ move_answer (spelled_term r) n
       go (Ok p) g = absurd (cc g)
       go (Err i) g = let same : j ≡ i = cc g in ap (λ j. Err (Inner (Impossible j))) same
 
-  both_asked : {A : Type 0} (x y : Str) (r : Result A MaskFault) → Ok tt ≡ step_checked x → Ok tt ≡ step_checked y → both_told (terms_transitions ds) x y r ≡ r
+  both_asked : {A : Type 0} (x y : Str) (r : Result A MaskFault) → Ok tt ≡ step_checked x → Ok tt ≡ step_checked y → both_answer (terms_transitions ds) x y r ≡ r
   both_asked x y r e f =
       not_refused (λ p. Inner (NoStep p)) ((terms_transitions ds).bad_step x) _ (unrefused NoStep _ e)
       ∙ not_refused (λ p. Inner (NoStep p)) ((terms_transitions ds).bad_step y) _ (unrefused NoStep _ f)
 
-  pub left_told_is : (x y : Str) (n : ℕ) (s : Option Sink) → Ok tt ≡ step_checked x → Ok tt ≡ step_checked y → s ≡ onto empty (residual_of x y) → step_put s n ≡ left_told (terms_transitions ds) terms_independence x y n
+  pub left_told_is : (x y : Str) (n : ℕ) (s : Option Sink) → Ok tt ≡ step_checked x → Ok tt ≡ step_checked y → s ≡ onto empty (residual_of x y) → step_put s n ≡ left_answer (terms_transitions ds) terms_independence x y n
   left_told_is x y n s e f g =
-      ap (λ s. step_put s n) g ∙ step_put_is (residual_of x y) n ∙ ap (λ o. step_fits o n) (sym (left_is x y e f))
-      ∙ sym (both_asked x y (step_fits (terms_independence.left x y) n) e f)
+      ap (λ s. step_put s n) g ∙ step_put_is (residual_of x y) n ∙ ap (λ o. fitting_step o n) (sym (left_is x y e f))
+      ∙ sym (both_asked x y (fitting_step (terms_independence.left x y) n) e f)
 
-  pub back_told_is : (x z : Str) (n : ℕ) (s : Option Sink) → Ok tt ≡ step_checked x → Ok tt ≡ step_checked z → s ≡ onto empty (origin_of x z) → step_put s n ≡ back_told (terms_transitions ds) terms_independence x z n
+  pub back_told_is : (x z : Str) (n : ℕ) (s : Option Sink) → Ok tt ≡ step_checked x → Ok tt ≡ step_checked z → s ≡ onto empty (origin_of x z) → step_put s n ≡ back_answer (terms_transitions ds) terms_independence x z n
   back_told_is x z n s e f g =
-      ap (λ s. step_put s n) g ∙ step_put_is (origin_of x z) n ∙ ap (λ o. step_fits o n) (sym (back_is x z e f))
-      ∙ sym (both_asked x z (step_fits (terms_independence.back x z) n) e f)
+      ap (λ s. step_put s n) g ∙ step_put_is (origin_of x z) n ∙ ap (λ o. fitting_step o n) (sym (back_is x z e f))
+      ∙ sym (both_asked x z (fitting_step (terms_independence.back x z) n) e f)

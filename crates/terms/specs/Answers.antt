@@ -8,7 +8,7 @@ use Rattle.steps.specs.declared.fault.SystemFault.TheVariants.{NoState, NoStep, 
 use Rattle.ccs.specs.Syntax.{Term}
 use Rattle.ccs.specs.System.{terms_transitions}
 use Rattle.residuals.specs.declared.sink.Sink.{Sink}
-use Rattle.residuals.specs.Sink.{put_told}
+use Rattle.residuals.specs.Sink.{put_answer}
 
 abbrev pub checked : (ℕ → SystemFault) → Option ℕ → Result (Unit {0}) SystemFault
 checked f None = Ok tt
@@ -22,8 +22,8 @@ abbrev pub step_checked : Str → Result (Unit {0}) SystemFault
 step_checked x = checked NoStep ((terms_transitions []).bad_step x)
 
 abbrev pub state_put : Sink → ℕ → Result Str MaskFault
-state_put s n = elim (put_told s 256 n) [ Ok w ↦ Ok w | Err k ↦ Err (Inner (StateTooLong k)) ]
+state_put s n = elim (put_answer s 256 n) [ Ok w ↦ Ok w | Err k ↦ Err (Inner (StateTooLong k)) ]
 
 abbrev pub step_put : Option Sink → ℕ → Result (Option Str) MaskFault
 step_put None n = Ok None
-step_put (Some s) n = elim (put_told s 64 n) [ Ok w ↦ Ok (Some w) | Err k ↦ Err (Inner (StepTooLong k)) ]
+step_put (Some s) n = elim (put_answer s 64 n) [ Ok w ↦ Ok (Some w) | Err k ↦ Err (Inner (StepTooLong k)) ]

@@ -38,8 +38,8 @@ terms_in n bodies = map (body_in n) bodies ++ replicate (n - length bodies) nil
 abbrev pub add_fault : ℕ → List Str → Str → Option BodyFault
 add_fault n bodies s = cond (nat_lt (length bodies) n) (elim (body_fault n s) [ None ↦ None | Some k ↦ Some (NoBody k) ]) (Some Full)
 
-abbrev pub add_told : ℕ → List Str → Str → Result (Unit {0}) BodyFault
-add_told n bodies s = elim (add_fault n bodies s) [ None ↦ Ok tt | Some f ↦ Err f ]
+abbrev pub add_answer : ℕ → List Str → Str → Result (Unit {0}) BodyFault
+add_answer n bodies s = elim (add_fault n bodies s) [ None ↦ Ok tt | Some f ↦ Err f ]
 
 abbrev pub bodies_after : ℕ → List Str → Str → List Str
 bodies_after n bodies s = elim (add_fault n bodies s) [ None ↦ bodies ++ s ∷ [] | Some f ↦ bodies ]

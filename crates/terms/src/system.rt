@@ -1,6 +1,6 @@
 // The step system of terms over some definitions: its states are terms, its steps proper proofs.
 ghost use Rattle.std.specs.Prelude.{◌≡◌, length};
-ghost use Rattle.byte_strings.specs.Buffer.{count, kept, count_some, kept_some};
+ghost use Rattle.byte_strings.specs.Buffer.{count, buffer_after, count_some, buffer_after_some};
 ghost use Rattle.ccs.specs.System.{terms_transitions, terms_independence};
 ghost use Rattle.ccs.proofs.System.{terms_laws};
 ghost use Rattle.terms.specs.Contents.{terms_of};
@@ -36,7 +36,7 @@ fn check_step(step: &[u8]) -> Result<(), SystemFault>
 // Writes a state over the front of the buffer and answers its length, or refuses one that is too long.
 fn put_state(state: &Sink, out: &mut [u8]) -> Result<usize, MaskFault>
     ensures answer { result ≡ count (state_put state.now (length out.old)) }
-    ensures buffer { out.new ≡ kept (state_put state.now (length out.old)) out.old }
+    ensures buffer { out.new ≡ buffer_after (state_put state.now (length out.old)) out.old }
 {
     match state.put(256, out) {
         Ok(len) => Ok(len),
@@ -47,7 +47,7 @@ fn put_state(state: &Sink, out: &mut [u8]) -> Result<usize, MaskFault>
 // The same of a step that is answered, or that there is none.
 fn put_step(step: Option<Sink>, out: &mut [u8]) -> Result<Option<usize>, MaskFault>
     ensures answer { result ≡ count_some (step_put step (length out.old)) }
-    ensures buffer { out.new ≡ kept_some (step_put step (length out.old)) out.old }
+    ensures buffer { out.new ≡ buffer_after_some (step_put step (length out.old)) out.old }
 {
     let Some(step) = step else {
         return Ok(None);

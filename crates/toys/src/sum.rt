@@ -23,8 +23,8 @@ impl<R: Relation> StepSystem for Sum<R> {
 
     ghost lawful = { λ _.
         record {
-          states_told = Prim.search rules;
-          steps_told = Prim.search rules;
+          state_refusals = Prim.search rules;
+          step_refusals = Prim.search rules;
           leads = Prim.search rules;
           between_steps = Prim.search rules;
           symmetric = λ x y z h. (y, Prim.search (rules, R.symmetric));

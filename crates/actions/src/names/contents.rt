@@ -1,7 +1,7 @@
 // What a list of names holds: making one, adding to it, and what it hides.
 ghost use Rattle.std.specs.Prelude.{◌≡◌, true, [], is_err};
 ghost use Rattle.actions.specs.Contents.{names_of};
-ghost use Rattle.actions.specs.Names.{name_fault, name_told, names_after, hides, HidesListed};
+ghost use Rattle.actions.specs.Names.{name_fault, name_answer, names_after, hides, HidesListed};
 
 use crate::action::{is_name, name_of};
 use crate::names::{NAME_LIMIT, NameFault, Names};
@@ -19,7 +19,7 @@ impl Names {
 
     // Takes one name more, behind the others, or refuses it and stays as it is.
     pub fn add(&mut self, name: u8) -> Result<(), NameFault>
-        ensures answer { result ≡ name_told (name_fault (names_of self.old) name) }
+        ensures answer { result ≡ name_answer (name_fault (names_of self.old) name) }
         ensures names { names_of self.new ≡ names_after (name_fault (names_of self.old) name) (names_of self.old) name }
         ensures refused { is_err result ≡ true → self.new ≡ self.old }
     {

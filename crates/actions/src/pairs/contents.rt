@@ -1,7 +1,7 @@
 // What a list of pairs holds: making one, adding to it, and what it makes of an action.
 ghost use Rattle.std.specs.Prelude.{◌≡◌, true, [], is_err};
 ghost use Rattle.actions.specs.Contents.{pairs_of};
-ghost use Rattle.actions.specs.Pairs.{beside_fault, pair_fault, pair_told, pairs_after, to_of, renamed, RenamesNames};
+ghost use Rattle.actions.specs.Pairs.{beside_fault, pair_fault, pair_answer, pairs_after, to_of, replacement, RenamesNames};
 
 use crate::action::{is_name, name_of};
 use crate::pairs::{PAIR_LIMIT, Pair, PairFault, Pairs};
@@ -19,7 +19,7 @@ impl Pairs {
 
     // Takes one pair more, behind the others, or refuses it and stays as it is.
     pub fn add(&mut self, pair: Pair) -> Result<(), PairFault>
-        ensures answer { result ≡ pair_told (pair_fault (pairs_of self.old) pair) }
+        ensures answer { result ≡ pair_answer (pair_fault (pairs_of self.old) pair) }
         ensures pairs { pairs_of self.new ≡ pairs_after (pair_fault (pairs_of self.old) pair) (pairs_of self.old) pair }
         ensures refused { is_err result ≡ true → self.new ≡ self.old }
     {
@@ -33,7 +33,7 @@ impl Pairs {
 
     // Whether the pair can stand beside these, or what is wrong with it.
     fn check(&self, pair: Pair) -> Result<(), PairFault>
-        ensures { result ≡ pair_told (beside_fault (pairs_of self.now) pair) }
+        ensures { result ≡ pair_answer (beside_fault (pairs_of self.now) pair) }
     {
         if !is_name(pair.from) {
             return Err(PairFault::FromNoName);
@@ -60,8 +60,8 @@ impl Pairs {
     }
 
     // The action with its name replaced, where that has a pair; a co-name stays a co-name.
-    pub fn renamed(&self, action: u8) -> u8
-        ensures value { result ≡ renamed (pairs_of self.now) action }
+    pub fn replacement(&self, action: u8) -> u8
+        ensures value { result ≡ replacement (pairs_of self.now) action }
         ensures names { RenamesNames (pairs_of self.now) }
     {
         let Some(to) = self.to(name_of(action)) else {

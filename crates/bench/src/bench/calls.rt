@@ -1,13 +1,13 @@
 // The calls of the bench: each names a sheet, and changes at most that one.
 ghost use Rattle.std.specs.Prelude.{◌≡◌, ◌≤◌, true, length, replicate, is_err, IfOk};
-ghost use Rattle.byte_strings.specs.Buffer.{count, kept};
+ghost use Rattle.byte_strings.specs.Buffer.{count, buffer_after};
 ghost use Rattle.bench.specs.Page.{blank_page};
 ghost use Rattle.bench.specs.Calls.{answered, accepted, opened, added, withdrawn, released, reopened};
 ghost use Rattle.bench.specs.Swap.{swapped};
-ghost use Rattle.bench.specs.Join.{named_page, pair_told, joined};
+ghost use Rattle.bench.specs.Join.{named_page, pair_answer, joined};
 ghost use Rattle.bench.specs.Print.{printed};
 ghost use Rattle.bench.specs.Look.{looked};
-ghost use Rattle.bench.specs.Table.{pages_of, on_sheet, pages_after, page_at, standing_of, index_told};
+ghost use Rattle.bench.specs.Table.{pages_of, on_sheet, pages_after, page_at, standing_of, index_answer};
 
 use crate::bench::Bench;
 use crate::fault::BenchFault;
@@ -16,7 +16,7 @@ use steps::system::StepSystem;
 
 // The index of the sheet that a call names.
 fn index(sheet: u8) -> Result<usize, BenchFault>
-    ensures { result ≡ index_told sheet }
+    ensures { result ≡ index_answer sheet }
 {
     let index = usize::from(sheet);
     if index < 4 {
@@ -61,7 +61,7 @@ impl Bench {
         out: &mut [u8],
     ) -> Result<usize, BenchFault>
         ensures answer { result ≡ count (answered (on_sheet (pages_of self.old) sheet (added (S.transitions system.now) step.now (length out.old)))) }
-        ensures buffer { out.new ≡ kept (answered (on_sheet (pages_of self.old) sheet (added (S.transitions system.now) step.now (length out.old)))) out.old }
+        ensures buffer { out.new ≡ buffer_after (answered (on_sheet (pages_of self.old) sheet (added (S.transitions system.now) step.now (length out.old)))) out.old }
         ensures pages { pages_of self.new ≡ pages_after (on_sheet (pages_of self.old) sheet (added (S.transitions system.now) step.now (length out.old))) (pages_of self.old) sheet }
         ensures untouched { is_err result ≡ true → self.new ≡ self.old }
     {
@@ -77,7 +77,7 @@ impl Bench {
         out: &mut [u8],
     ) -> Result<usize, BenchFault>
         ensures answer { result ≡ count (answered (on_sheet (pages_of self.old) sheet (withdrawn (S.transitions system.now) (length out.old)))) }
-        ensures buffer { out.new ≡ kept (answered (on_sheet (pages_of self.old) sheet (withdrawn (S.transitions system.now) (length out.old)))) out.old }
+        ensures buffer { out.new ≡ buffer_after (answered (on_sheet (pages_of self.old) sheet (withdrawn (S.transitions system.now) (length out.old)))) out.old }
         ensures pages { pages_of self.new ≡ pages_after (on_sheet (pages_of self.old) sheet (withdrawn (S.transitions system.now) (length out.old))) (pages_of self.old) sheet }
         ensures untouched { is_err result ≡ true → self.new ≡ self.old }
     {
@@ -114,7 +114,7 @@ impl Bench {
         sheet: u8,
         other: u8,
     ) -> Result<(u8, u8), BenchFault>
-        ensures answer { pair_told result ≡ answered (on_sheet (pages_of self.old) sheet (joined (S.transitions system.now) (S.independence system.now) (page_at (pages_of self.old) other))) }
+        ensures answer { pair_answer result ≡ answered (on_sheet (pages_of self.old) sheet (joined (S.transitions system.now) (S.independence system.now) (page_at (pages_of self.old) other))) }
         ensures pages { pages_of self.new ≡ pages_after (on_sheet (pages_of self.old) sheet (joined (S.transitions system.now) (S.independence system.now) (page_at (pages_of self.old) other))) (pages_of self.old) sheet }
         ensures untouched { is_err result ≡ true → self.new ≡ self.old }
     {
@@ -151,7 +151,7 @@ impl Bench {
         out: &mut [u8],
     ) -> Result<usize, BenchFault>
         ensures answer { result ≡ count (answered (on_sheet (pages_of self.now) sheet (printed (S.transitions system.now) (length out.old)))) }
-        ensures buffer { out.new ≡ kept (answered (on_sheet (pages_of self.now) sheet (printed (S.transitions system.now) (length out.old)))) out.old }
+        ensures buffer { out.new ≡ buffer_after (answered (on_sheet (pages_of self.now) sheet (printed (S.transitions system.now) (length out.old)))) out.old }
         ensures bound { IfOk result (λ n. n ≤ 5222) }
     {
         let s = index(sheet)?;
@@ -167,7 +167,7 @@ impl Bench {
         out: &mut [u8],
     ) -> Result<usize, BenchFault>
         ensures answer { result ≡ count (answered (on_sheet (pages_of self.old) sheet (looked (S.transitions system.now) steps (length out.old)))) }
-        ensures buffer { out.new ≡ kept (answered (on_sheet (pages_of self.old) sheet (looked (S.transitions system.now) steps (length out.old)))) out.old }
+        ensures buffer { out.new ≡ buffer_after (answered (on_sheet (pages_of self.old) sheet (looked (S.transitions system.now) steps (length out.old)))) out.old }
         ensures unchanged { self.new ≡ self.old }
     {
         let s = index(sheet)?;

@@ -1,6 +1,6 @@
 // Opening a sheet, and the calls that change its steps.
 ghost use Rattle.std.specs.Prelude.{◌≡◌, true, length, is_err};
-ghost use Rattle.byte_strings.specs.Buffer.{count, kept};
+ghost use Rattle.byte_strings.specs.Buffer.{count, buffer_after};
 ghost use Rattle.bench.specs.Page.{page_of, blank_page};
 ghost use Rattle.bench.specs.Calls.{answered, accepted, after, opened, added, withdrawn};
 
@@ -56,7 +56,7 @@ impl Sheet {
         out: &mut [u8],
     ) -> Result<usize, BenchFault>
         ensures answer { result ≡ count (answered (added (S.transitions system.now) step.now (length out.old) (page_of self.old))) }
-        ensures buffer { out.new ≡ kept (answered (added (S.transitions system.now) step.now (length out.old) (page_of self.old))) out.old }
+        ensures buffer { out.new ≡ buffer_after (answered (added (S.transitions system.now) step.now (length out.old) (page_of self.old))) out.old }
         ensures page { page_of self.new ≡ after (added (S.transitions system.now) step.now (length out.old) (page_of self.old)) (page_of self.old) }
         ensures untouched { is_err result ≡ true → self.new ≡ self.old }
     {
@@ -83,7 +83,7 @@ impl Sheet {
         out: &mut [u8],
     ) -> Result<usize, BenchFault>
         ensures answer { result ≡ count (answered (withdrawn (S.transitions system.now) (length out.old) (page_of self.old))) }
-        ensures buffer { out.new ≡ kept (answered (withdrawn (S.transitions system.now) (length out.old) (page_of self.old))) out.old }
+        ensures buffer { out.new ≡ buffer_after (answered (withdrawn (S.transitions system.now) (length out.old) (page_of self.old))) out.old }
         ensures page { page_of self.new ≡ after (withdrawn (S.transitions system.now) (length out.old) (page_of self.old)) (page_of self.old) }
         ensures untouched { is_err result ≡ true → self.new ≡ self.old }
     {

@@ -1,7 +1,7 @@
 // One sheet joined into another.
 ghost use Rattle.std.specs.Prelude.{◌≡◌, ◌+◌, ◌≤◌, true, map, length, is_ok, is_err, IfOk};
 ghost use Rattle.bench.specs.Page.{page_of, steps_of};
-ghost use Rattle.bench.specs.Replay.{end_told};
+ghost use Rattle.bench.specs.Replay.{end_answer};
 ghost use Rattle.bench.specs.Calls.{answered, after};
 ghost use Rattle.bench.specs.Join as join_of;
 
@@ -42,8 +42,8 @@ impl Sheet {
         other: &Sheet,
         end: &Held<256>,
     ) -> Result<StepList, BenchFault>
-        requires first { is_ok (end_told (S.transitions system.now) (page_of self.now)) ≡ true }
-        requires second { is_ok (end_told (S.transitions system.now) (page_of other.now)) ≡ true }
+        requires first { is_ok (end_answer (S.transitions system.now) (page_of self.now)) ≡ true }
+        requires second { is_ok (end_answer (S.transitions system.now) (page_of other.now)) ≡ true }
         ensures value { result ≡ join_of.surviving (S.transitions system.now) (S.independence system.now) end.now (page_of self.now) (page_of other.now) }
         ensures few { IfOk result (λ added. length added ≤ other.now.head.len) }
         ensures room { IfOk result (λ added. self.now.head.len + length added ≤ 32) }
@@ -84,7 +84,7 @@ impl Sheet {
         system: &S,
         other: Option<Sheet>,
     ) -> Result<(u8, u8), BenchFault>
-        ensures answer { join_of.pair_told result ≡ answered (join_of.joined (S.transitions system.now) (S.independence system.now) (join_of.named_page other) (page_of self.old)) }
+        ensures answer { join_of.pair_answer result ≡ answered (join_of.joined (S.transitions system.now) (S.independence system.now) (join_of.named_page other) (page_of self.old)) }
         ensures page { page_of self.new ≡ after (join_of.joined (S.transitions system.now) (S.independence system.now) (join_of.named_page other) (page_of self.old)) (page_of self.old) }
         ensures untouched { is_err result ≡ true → self.new ≡ self.old }
     {

@@ -1,6 +1,6 @@
 // A look back at the first steps of a sheet.
 ghost use Rattle.std.specs.Prelude.{◌≡◌, ◌≤◌, length, take};
-ghost use Rattle.byte_strings.specs.Buffer.{count, kept};
+ghost use Rattle.byte_strings.specs.Buffer.{count, buffer_after};
 ghost use Rattle.bench.specs.Page.{page_of};
 ghost use Rattle.bench.specs.Replay.{replayed};
 ghost use Rattle.bench.specs.Calls.{answered};
@@ -54,7 +54,7 @@ impl Sheet {
         out: &mut [u8],
     ) -> Result<usize, BenchFault>
         ensures answer { result ≡ count (answered (looked (S.transitions system.now) steps (length out.old) (page_of self.old))) }
-        ensures buffer { out.new ≡ kept (answered (looked (S.transitions system.now) steps (length out.old) (page_of self.old))) out.old }
+        ensures buffer { out.new ≡ buffer_after (answered (looked (S.transitions system.now) steps (length out.old) (page_of self.old))) out.old }
         ensures unchanged { self.new ≡ self.old }
     {
         let Sheet { head, start, rows } = self;

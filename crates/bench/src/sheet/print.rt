@@ -1,8 +1,8 @@
 // The printed text of a sheet.
 ghost use Rattle.std.specs.Prelude.{◌≡◌, ◌≤◌, true, length, is_ok, IfOk};
-ghost use Rattle.byte_strings.specs.Buffer.{over, count, kept};
+ghost use Rattle.byte_strings.specs.Buffer.{over, count, buffer_after};
 ghost use Rattle.bench.specs.Page.{page_of, steps_of};
-ghost use Rattle.bench.specs.Replay.{end_told};
+ghost use Rattle.bench.specs.Replay.{end_answer};
 ghost use Rattle.bench.specs.Calls.{answered};
 ghost use Rattle.bench.specs.Print.{step_lines, lines_length, sheet_text, text_length, printed};
 
@@ -29,7 +29,7 @@ impl Sheet {
     // Writes the lines of the steps over the front of `out`, and answers their length.
     // That the sheet replays is a clause here, below, in swap and in join: a fact of two values, the sheet and the system.
     fn print_steps<S: StepSystem>(&self, system: &S, out: &mut [u8]) -> usize
-        requires replays { is_ok (end_told (S.transitions system.now) (page_of self.now)) ≡ true }
+        requires replays { is_ok (end_answer (S.transitions system.now) (page_of self.now)) ≡ true }
         requires room { lines_length (steps_of (page_of self.now)) ≤ length out.old }
         ensures value { result ≡ lines_length (steps_of (page_of self.now)) }
         ensures buffer { out.new ≡ over (step_lines (S.transitions system.now) (steps_of (page_of self.now))) out.old }
@@ -49,7 +49,7 @@ impl Sheet {
     // Writes the text of a released sheet over the front of `out`, and answers its length.
     pub fn print<S: StepSystem>(&self, system: &S, out: &mut [u8]) -> Result<usize, BenchFault>
         ensures answer { result ≡ count (answered (printed (S.transitions system.now) (length out.old) (page_of self.now))) }
-        ensures buffer { out.new ≡ kept (answered (printed (S.transitions system.now) (length out.old) (page_of self.now))) out.old }
+        ensures buffer { out.new ≡ buffer_after (answered (printed (S.transitions system.now) (length out.old) (page_of self.now))) out.old }
         ensures bound { IfOk result (λ n. n ≤ 5222) }
     {
         let end = self.end(system, Standing::Released)?;
@@ -64,7 +64,7 @@ impl Sheet {
 
     // Writes the text, which ends in the state `end`, over the front of `out`.
     fn write_text<S: StepSystem>(&self, system: &S, end: &Held<256>, out: &mut [u8])
-        requires replays { is_ok (end_told (S.transitions system.now) (page_of self.now)) ≡ true }
+        requires replays { is_ok (end_answer (S.transitions system.now) (page_of self.now)) ≡ true }
         requires room { text_length (page_of self.now) end.now ≤ length out.old }
         ensures { out.new ≡ over (sheet_text (S.transitions system.now) (page_of self.now) end.now) out.old }
     {

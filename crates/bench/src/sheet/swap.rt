@@ -1,8 +1,8 @@
 // The exchange of neighbours on a sheet.
 ghost use Rattle.std.specs.Prelude.{◌≡◌, ◌-◌, ◌<◌, true, [], is_ok, is_err, slice_index_or};
-ghost use Rattle.joins.specs.Exchange.{neighbours_told, exchanged_told};
+ghost use Rattle.joins.specs.Exchange.{neighbours_answer, exchange_answer};
 ghost use Rattle.bench.specs.Page.{page_of};
-ghost use Rattle.bench.specs.Replay.{end_told};
+ghost use Rattle.bench.specs.Replay.{end_answer};
 ghost use Rattle.bench.specs.Calls.{accepted, after};
 ghost use Rattle.bench.specs.Swap.{swapped};
 
@@ -23,8 +23,8 @@ impl Sheet {
     ) -> Result<Option<Neighbours>, MaskFault>
         requires above { 0 < n }
         requires below { n < self.now.head.len }
-        requires replays { is_ok (end_told (S.transitions system.now) (page_of self.now)) ≡ true }
-        ensures { neighbours_told result ≡ exchanged_told (S.independence system.now) (slice_index_or (page_of self.now).rows (n - 1) []) (slice_index_or (page_of self.now).rows n []) }
+        requires replays { is_ok (end_answer (S.transitions system.now) (page_of self.now)) ≡ true }
+        ensures { neighbours_answer result ≡ exchange_answer (S.independence system.now) (slice_index_or (page_of self.now).rows (n - 1) []) (slice_index_or (page_of self.now).rows n []) }
     {
         exchange(system, &self.rows[n - 1], &self.rows[n])
     }

@@ -1,6 +1,6 @@
 // What a list holds, and how one is made and read out.
 ghost use Rattle.std.specs.Prelude.{◌≡◌, ◌≤◌, false, leb, [], ◌∷◌, ◌++◌, length, take, if◌then◌else◌, nat_le};
-ghost use Rattle.byte_strings.specs.Fitted.{fitted};
+ghost use Rattle.byte_strings.specs.Fitted.{list_within};
 
 use crate::list::{Blank, FixedList};
 
@@ -18,7 +18,7 @@ impl<T: Blank, const N: usize> FixedList<T, N> {
     // Holds the given items; none where there are more than N.
     // By a name and not by `TryFrom`, which would ask for an error type that no caller reads.
     pub fn of(items: &[T]) -> Option<FixedList<T, N>>
-        ensures { result ≡ fitted N items.now }
+        ensures { result ≡ list_within N items.now }
     {
         if items.len() > N {
             return None;

@@ -1,6 +1,6 @@
 // Reading a setup: its kind, its layout, and then the rules.
 ghost use Rattle.std.specs.Prelude.{◌≡◌, ◌+◌, ◌<◌, length};
-ghost use Rattle.frame.specs.Reading.{layout_told, parts_told, setup_told, setup_view, viewed};
+ghost use Rattle.frame.specs.Reading.{layout_answer, parts_answer, setup_answer, setup_view, viewed};
 
 use crate::fault::FrameFault;
 use crate::layout::{Kind, layout};
@@ -11,7 +11,7 @@ impl Setup<'_> {
     // Reads what stands behind the first byte of a setup's frame.
     pub(crate) fn read(fields: &[u8]) -> Result<Setup<'_>, FrameFault>
         requires { length fields.now < 1024 }
-        ensures { viewed setup_view result ≡ setup_told fields.now }
+        ensures { viewed setup_view result ≡ setup_answer fields.now }
     {
         let (kind, fields) = fields.split_first().ok_or(FrameFault::Malformed(1))?;
         match *kind {
@@ -26,7 +26,7 @@ impl Setup<'_> {
 // The bound on the length is a clause here and in its callers, and no type: each takes a byte off, and has another bound.
 fn read_parts(kind: Kind, fields: &[u8]) -> Result<Setup<'_>, FrameFault>
     requires { length fields.now < 1023 }
-    ensures { viewed setup_view result ≡ parts_told (length fields.now + 2) (layout_told kind fields.now) }
+    ensures { viewed setup_view result ≡ parts_answer (length fields.now + 2) (layout_answer kind fields.now) }
 {
     let end = fields.len() + 2;
     // The places fit, so no `try_from`: a frame has at most 1024 bytes.

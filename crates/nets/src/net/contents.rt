@@ -1,8 +1,8 @@
 // What a net holds: making one, adding to it, and the event that a step names.
 ghost use Rattle.std.specs.Prelude.{◌≡◌, false, [], is_ok};
 ghost use Rattle.nets.specs.Contents.{events_of};
-ghost use Rattle.nets.specs.Events.{add_fault, add_told, events_after};
-ghost use Rattle.nets.specs.System.{read_event, event_told};
+ghost use Rattle.nets.specs.Events.{add_fault, add_answer, events_after};
+ghost use Rattle.nets.specs.System.{read_event, event_answer};
 
 use crate::event::{Event, EventFault};
 use crate::net::{EVENT_LIMIT, Net};
@@ -21,7 +21,7 @@ impl Net {
 
     // Takes one event more, behind the others, or refuses it and stays as it is.
     pub fn add(&mut self, event: Event) -> Result<(), EventFault>
-        ensures answer { result ≡ add_told (add_fault (events_of self.old) event) }
+        ensures answer { result ≡ add_answer (add_fault (events_of self.old) event) }
         ensures events { events_of self.new ≡ events_after (add_fault (events_of self.old) event) (events_of self.old) event }
         ensures refused { is_ok result ≡ false → self.new ≡ self.old }
     {
@@ -35,7 +35,7 @@ impl Net {
 
     // The event that a step names.
     pub(crate) fn event(&self, step: &[u8]) -> Result<Event, MaskFault>
-        ensures { result ≡ event_told (read_event (events_of self.now) step.now) }
+        ensures { result ≡ event_answer (read_event (events_of self.now) step.now) }
     {
         let none = MaskFault::Inner(SystemFault::NoStep(0));
         let (number, rest) = step.split_first().ok_or(none)?;

@@ -1,9 +1,9 @@
 // The calls that change the steps of an open sheet.
 ghost use Rattle.std.specs.Prelude.{◌≡◌, true, length, is_err, IfErr};
-ghost use Rattle.byte_strings.specs.Buffer.{count, kept};
+ghost use Rattle.byte_strings.specs.Buffer.{count, buffer_after};
 ghost use Rattle.bench.specs.Calls.{answered, accepted, after, opened, added, withdrawn};
 ghost use Rattle.bench.specs.Swap.{swapped};
-ghost use Rattle.bench.specs.Join.{pair_told, joined};
+ghost use Rattle.bench.specs.Join.{pair_answer, joined};
 ghost use Rattle.bench.specs.Look.{looked};
 ghost use Rattle.sheets.specs.Pages.{open_page, any_page};
 ghost use Rattle.sheets.specs.Standing.{NotByStanding};
@@ -33,7 +33,7 @@ impl OpenSheet {
         out: &mut [u8],
     ) -> Result<usize, BenchFault>
         ensures answer { result ≡ count (answered (added (S.transitions system.now) step.now (length out.old) (open_page self.old))) }
-        ensures buffer { out.new ≡ kept (answered (added (S.transitions system.now) step.now (length out.old) (open_page self.old))) out.old }
+        ensures buffer { out.new ≡ buffer_after (answered (added (S.transitions system.now) step.now (length out.old) (open_page self.old))) out.old }
         ensures page { open_page self.new ≡ after (added (S.transitions system.now) step.now (length out.old) (open_page self.old)) (open_page self.old) }
         ensures untouched { is_err result ≡ true → self.new ≡ self.old }
         ensures standing { IfErr result NotByStanding }
@@ -48,7 +48,7 @@ impl OpenSheet {
         out: &mut [u8],
     ) -> Result<usize, BenchFault>
         ensures answer { result ≡ count (answered (withdrawn (S.transitions system.now) (length out.old) (open_page self.old))) }
-        ensures buffer { out.new ≡ kept (answered (withdrawn (S.transitions system.now) (length out.old) (open_page self.old))) out.old }
+        ensures buffer { out.new ≡ buffer_after (answered (withdrawn (S.transitions system.now) (length out.old) (open_page self.old))) out.old }
         ensures page { open_page self.new ≡ after (withdrawn (S.transitions system.now) (length out.old) (open_page self.old)) (open_page self.old) }
         ensures untouched { is_err result ≡ true → self.new ≡ self.old }
         ensures standing { IfErr result NotByStanding }
@@ -73,7 +73,7 @@ impl OpenSheet {
         system: &S,
         other: AnySheet<'_>,
     ) -> Result<(u8, u8), BenchFault>
-        ensures answer { pair_told result ≡ answered (joined (S.transitions system.now) (S.independence system.now) (Some (any_page other.entry)) (open_page self.old)) }
+        ensures answer { pair_answer result ≡ answered (joined (S.transitions system.now) (S.independence system.now) (Some (any_page other.entry)) (open_page self.old)) }
         ensures page { open_page self.new ≡ after (joined (S.transitions system.now) (S.independence system.now) (Some (any_page other.entry)) (open_page self.old)) (open_page self.old) }
         ensures untouched { is_err result ≡ true → self.new ≡ self.old }
         ensures standing { IfErr result NotByStanding }
@@ -89,7 +89,7 @@ impl OpenSheet {
         out: &mut [u8],
     ) -> Result<usize, BenchFault>
         ensures answer { result ≡ count (answered (looked (S.transitions system.now) steps (length out.old) (open_page self.old))) }
-        ensures buffer { out.new ≡ kept (answered (looked (S.transitions system.now) steps (length out.old) (open_page self.old))) out.old }
+        ensures buffer { out.new ≡ buffer_after (answered (looked (S.transitions system.now) steps (length out.old) (open_page self.old))) out.old }
         ensures unchanged { self.new ≡ self.old }
         ensures standing { IfErr result NotByStanding }
     {

@@ -2,7 +2,7 @@
 ghost use Rattle.std.specs.Prelude.{◌≡◌, IfErr};
 ghost use Rattle.bench.specs.Page.{blank_page};
 ghost use Rattle.bench.specs.Calls.{opened, released};
-ghost use Rattle.sheets.specs.Pages.{open_page, page_told, start_told, release_told};
+ghost use Rattle.sheets.specs.Pages.{open_page, page_answer, start_answer, release_answer};
 ghost use Rattle.sheets.specs.Standing.{NotByStanding};
 
 use crate::open_sheet::OpenSheet;
@@ -15,7 +15,7 @@ use steps::system::StepSystem;
 impl OpenSheet {
     // Opens a new sheet at a start, with no steps.
     pub fn start<S: StepSystem>(system: &S, state: &[u8]) -> Result<OpenSheet, BenchFault>
-        ensures answer { start_told result ≡ page_told (opened (S.transitions system.now) state.now blank_page) }
+        ensures answer { start_answer result ≡ page_answer (opened (S.transitions system.now) state.now blank_page) }
         ensures standing { IfErr result NotByStanding }
     {
         let mut sheet = Sheet::blank();
@@ -26,7 +26,7 @@ impl OpenSheet {
     // Releases the sheet, so that it can be printed, or gives it back.
     #[tactic(auto, using(crate::proofs::TypedSheets::same_open))]
     pub fn release<S: StepSystem>(self, system: &S) -> Result<ReleasedSheet, Refused<OpenSheet>>
-        ensures answer { release_told result ≡ page_told (released (S.transitions system.now) (open_page self)) }
+        ensures answer { release_answer result ≡ page_answer (released (S.transitions system.now) (open_page self)) }
         ensures untouched { IfErr result (λ r. r.sheet ≡ self) }
         ensures standing { IfErr result (λ r. NotByStanding r.fault) }
     {

@@ -5,7 +5,7 @@ ghost use Rattle.ccs.specs.Reading.{read_term};
 ghost use Rattle.byte_strings.specs.Lent.{part_view};
 ghost use Rattle.nodes.specs.Nodes.{TermNode, term_view};
 ghost use Rattle.terms.specs.Answers.{state_checked};
-ghost use Rattle.terms.specs.Bodies.{definition_limit, body_fault, add_told, bodies_after, body_limit, place_of, WithinBody};
+ghost use Rattle.terms.specs.Bodies.{definition_limit, body_fault, add_answer, bodies_after, body_limit, place_of, WithinBody};
 ghost use Rattle.terms.specs.BodyLaws.{BodiesTold};
 ghost use Rattle.terms.specs.Contents.{count_of, bodies_of, terms_of};
 ghost use Rattle.terms.specs.Follow.{unfolded};
@@ -53,7 +53,7 @@ impl Terms {
     // Gives the next definition its body, or refuses it and stays as it is.
     #[tactic(auto, using(crate::proofs::Bodies::bodies_told))]
     pub fn add(&mut self, body: &[u8]) -> Result<(), BodyFault>
-        ensures answer { result ≡ add_told (count_of self.old) (bodies_of self.old) body.now }
+        ensures answer { result ≡ add_answer (count_of self.old) (bodies_of self.old) body.now }
         ensures count { count_of self.new ≡ count_of self.old }
         ensures bodies { bodies_of self.new ≡ bodies_after (count_of self.old) (bodies_of self.old) body.now }
         ensures place { WithinBody result }

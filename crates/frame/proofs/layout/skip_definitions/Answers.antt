@@ -1,10 +1,10 @@
 use Rattle.std.proofs.Common.{◌≡◌, ◌-◌, ◌+◌, sym, ap, ◌∙◌, arith}
-use Rattle.frame.specs.Parts.{behind_told}
+use Rattle.frame.specs.Parts.{behind_answer}
 use Rattle.frame.proofs.Bodies.{behind_end, behind_missing, behind_more}
 use Rattle.frame.proofs.layout.skip_definitions.Goals as goal
 
 pub loop-init : goal.loop-init
-loop-init c = ap (λ n. behind_told n c.args.bytes.now) (omega arith)
+loop-init c = ap (λ n. behind_answer n c.args.bytes.now) (omega arith)
 
 pub returns-in_default : goal.returns-in_default
 returns-in_default c =
@@ -19,4 +19,4 @@ loop-preserved c =
 pub returns : goal.returns
 returns c =
     let none : c.args.count - c.loop.counter ≡ 0 = omega arith in
-    sym (behind_end c.loop.rest.now) ∙ ap (λ n. behind_told n c.loop.rest.now) (sym none) ∙ c.loop.invariant
+    sym (behind_end c.loop.rest.now) ∙ ap (λ n. behind_answer n c.loop.rest.now) (sym none) ∙ c.loop.invariant

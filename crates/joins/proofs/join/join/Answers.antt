@@ -1,7 +1,7 @@
 use Rattle.std.proofs.Common.{◌≡◌, ◌+◌, Ok, Err, length, ap, sym, ◌∙◌, rules, arith}
 use Rattle.runs.specs.Join.{carry}
 use Rattle.runs.specs.Join.Carried.{clash}
-use Rattle.joins.specs.Carry.{carried_told}
+use Rattle.joins.specs.Carry.{carry_answer}
 use Rattle.joins.proofs.Carrying.{read_at, short_read, clash_told}
 use Rattle.joins.proofs.Joining.{step_clashes, step_gone, step_kept, all_joined}
 use Rattle.joins.proofs.join.join.Goals as goal
@@ -35,7 +35,7 @@ loop-k-preserved g c =
     let lt = rw c.items-step-items.ensures.value at c.loop-k-test.true in
     let is = rw c.items-step-items.ensures.value at c.step-item.is in
     let short = short_read (g.S.StepSystem.transitions c.args.system.now) e k y lt is c.requires.second in
-    let told : carried_told (Ok (c.in_ok-survivor.survivor, c.in_ok-survivor.rest)) ≡ carry (g.S.StepSystem.independence c.args.system.now) y c.loop-k.remains = search rules in
+    let told : carry_answer (Ok (c.in_ok-survivor.survivor, c.in_ok-survivor.rest)) ≡ carry (g.S.StepSystem.independence c.args.system.now) y c.loop-k.remains = search rules in
     elim c.match-survivor.branch [
       | in-Some w ↦ step_kept laws c.args.s.now e c.loop-k.added c.loop-k.remains k c.loop-k.invariant few lt y (read_at e k y lt is) short c.match-survivor.added c.in_ok-survivor.rest c.match-survivor.remains w.in-Some.survivor (rw w.in-Some.is at told) (w.added-is ∙ w.push.ensures) w.remains-is
       | in_default w ↦ step_gone laws c.args.s.now e c.loop-k.added c.loop-k.remains k c.loop-k.invariant few lt y (read_at e k y lt is) short c.match-survivor.added c.in_ok-survivor.rest c.match-survivor.remains (rw w.in_default.is at told) w.added-is w.remains-is

@@ -4,7 +4,7 @@ use Rattle.std.proofs.lemmas.Bool.{false≢true}
 use Rattle.bench.specs.declared.fault.BenchFault.TheVariants.{WrongStanding, NoSheet}
 use Rattle.bench.specs.Page.{page_of}
 use Rattle.bench.specs.Calls.{answered, after}
-use Rattle.bench.specs.Join.{named_page, pair_told, joined}
+use Rattle.bench.specs.Join.{named_page, pair_answer, joined}
 use Rattle.bench.proofs.Calling.{not_open}
 use Rattle.bench.proofs.Joining.{alike_ok, joined_none, joined_blank, joined_unlike, joined_refused, joined_done}
 use Rattle.bench.proofs.sheet.Sheet.join.Goals as goal
@@ -22,7 +22,7 @@ returns-in_err-other g c =
     let none : c.args.other ≡ None = search rules in
     let told : c.in_err-other.field-0.0 ≡ NoSheet 2 = search rules in
     let e = ap (λ o. joined (g.S.StepSystem.transitions c.args.system.now) (g.S.StepSystem.independence c.args.system.now) (named_page o) p) none ∙ joined_none (g.S.StepSystem.transitions c.args.system.now) (g.S.StepSystem.independence c.args.system.now) p c.in-Open.is in
-    record { answer = ap pair_told (q.1 ∙ ap Err (q.2 ∙ told)) ∙ sym (ap answered e); page = sym (ap (λ o. after o p) e); untouched = λ _. refl }
+    record { answer = ap pair_answer (q.1 ∙ ap Err (q.2 ∙ told)) ∙ sym (ap answered e); page = sym (ap (λ o. after o p) e); untouched = λ _. refl }
 
 pub returns-in-Blank : goal.returns-in-Blank
 returns-in-Blank g c =
@@ -41,7 +41,7 @@ returns-in_err-end g c =
     let given : c.args.other ≡ Some c.in_ok-other.other = search rules in
     let named = ap (λ o. joined (g.S.StepSystem.transitions c.args.system.now) (g.S.StepSystem.independence c.args.system.now) (named_page o) p) given in
     let e = named ∙ joined_unlike (g.S.StepSystem.transitions c.args.system.now) (g.S.StepSystem.independence c.args.system.now) p c.in-Open.is e' c.in_default-standing.not-Blank c.in_err-end.field-0.0 c.in_err-end.ensures in
-    record { answer = ap pair_told (q.1 ∙ ap Err q.2) ∙ sym (ap answered e); page = sym (ap (λ o. after o p) e); untouched = λ _. refl }
+    record { answer = ap pair_answer (q.1 ∙ ap Err q.2) ∙ sym (ap answered e); page = sym (ap (λ o. after o p) e); untouched = λ _. refl }
 
 pub returns-in_err-added : goal.returns-in_err-added
 returns-in_err-added g c =
@@ -51,7 +51,7 @@ returns-in_err-added g c =
     let given : c.args.other ≡ Some c.in_ok-other.other = search rules in
     let named = ap (λ o. joined (g.S.StepSystem.transitions c.args.system.now) (g.S.StepSystem.independence c.args.system.now) (named_page o) p) given in
     let e = named ∙ joined_refused (g.S.StepSystem.transitions c.args.system.now) (g.S.StepSystem.independence c.args.system.now) p c.in-Open.is e' c.in_default-standing.not-Blank c.in_ok-end.end c.in_ok-end.ensures c.in_err-added.field-0.0 c.in_err-added.ensures.value in
-    record { answer = ap pair_told (q.1 ∙ ap Err q.2) ∙ sym (ap answered e); page = sym (ap (λ o. after o p) e); untouched = λ _. refl }
+    record { answer = ap pair_answer (q.1 ∙ ap Err q.2) ∙ sym (ap answered e); page = sym (ap (λ o. after o p) e); untouched = λ _. refl }
 
 pub survivors-requires : goal.survivors-requires
 survivors-requires g c =

@@ -1,6 +1,6 @@
 use Rattle.std.proofs.Common.{◌-◌, [], ◌∙◌, ap₂, arith}
 use Rattle.std.proofs.lemmas.List.{get_or_default}
-use Rattle.joins.specs.Exchange.{exchanged_told}
+use Rattle.joins.specs.Exchange.{exchange_answer}
 use Rattle.bench.proofs.Replayed.{row_short}
 use Rattle.bench.proofs.sheet.Sheet.neighbours.Goals as goal
 
@@ -18,4 +18,4 @@ returns g c =
     let rows = c.args.self.now.rows in
     let n = c.args.n in
     c.exchange.ensures
-    ∙ ap₂ (exchanged_told (g.S.StepSystem.independence c.args.system.now)) (get_or_default rows (n - 1) c.index-self-n.result [] (omega arith)) (get_or_default rows n c.index-self-n-2.result [] (omega arith))
+    ∙ ap₂ (exchange_answer (g.S.StepSystem.independence c.args.system.now)) (get_or_default rows (n - 1) c.index-self-n.result [] (omega arith)) (get_or_default rows n c.index-self-n-2.result [] (omega arith))

@@ -1,8 +1,8 @@
 use Rattle.std.proofs.Common.{rules, Some, None, ◌≡◌, ℕ, ◌-◌, ◌<◌, List, set, is_ok, Ok, Err, sym, refl, ap, ◌∙◌, arith}
 use Rattle.std.proofs.lemmas.Result.{err_from_is_err_and}
 use Rattle.std.proofs.lemmas.Bool.{false≢true}
-use Rattle.steps.specs.Told.{next_told}
-use Rattle.joins.specs.Exchange.{Pair, neighbours_told}
+use Rattle.steps.specs.Answers.{next_answer}
+use Rattle.joins.specs.Exchange.{Pair, neighbours_answer}
 use Rattle.bench.specs.declared.sheet.Standing.TheVariants.{Open}
 use Rattle.bench.specs.declared.fault.BenchFault.TheVariants.{NoSuchStep, Dependent}
 use Rattle.steps.specs.Meaning.{Str}
@@ -50,7 +50,7 @@ returns-in_err-neighbours-2 g c =
     let below : c.from-n.result < p.len = omega arith in
     let none : c.neighbours.result ≡ Ok None = search rules in
     let told : c.in_err-neighbours-2.field-0.0 ≡ Dependent c.from-n.result = search rules in
-    let e = ap (λ k. swapped (g.S.StepSystem.transitions c.args.system.now) (g.S.StepSystem.independence c.args.system.now) k p) (sym c.from-n.ensures) ∙ swapped_dependent (g.S.StepSystem.transitions c.args.system.now) (g.S.StepSystem.independence c.args.system.now) p c.from-n.result c.in_ok-end.field-0 c.in_ok-end.ensures above below (sym (ap neighbours_told none) ∙ c.neighbours.ensures) in
+    let e = ap (λ k. swapped (g.S.StepSystem.transitions c.args.system.now) (g.S.StepSystem.independence c.args.system.now) k p) (sym c.from-n.ensures) ∙ swapped_dependent (g.S.StepSystem.transitions c.args.system.now) (g.S.StepSystem.independence c.args.system.now) p c.from-n.result c.in_ok-end.field-0 c.in_ok-end.ensures above below (sym (ap neighbours_answer none) ∙ c.neighbours.ensures) in
     record { answer = q.1 ∙ ap Err (q.2 ∙ told) ∙ sym (ap accepted e); page = sym (ap (λ o. after o p) e); untouched = λ _. refl }
 
 pub returns-in_err-before : goal.returns-in_err-before
@@ -61,7 +61,7 @@ returns-in_err-before g c =
     let below : c.from-n.result < p.len = omega arith in
     let x : Pair = record { first = c.in_ok-neighbours-2.neighbours.first; second = c.in_ok-neighbours-2.neighbours.second } in
     let some : c.neighbours.result ≡ Ok (Some c.in_ok-neighbours-2.neighbours) = search rules in
-    let told = sym (ap neighbours_told some) ∙ c.neighbours.ensures in
+    let told = sym (ap neighbours_answer some) ∙ c.neighbours.ensures in
     let e = ap (λ k. swapped (g.S.StepSystem.transitions c.args.system.now) (g.S.StepSystem.independence c.args.system.now) k p) (sym c.from-n.ensures) ∙ swapped_stopped (g.S.StepSystem.transitions c.args.system.now) (g.S.StepSystem.independence c.args.system.now) p c.from-n.result c.in_ok-end.field-0 c.in_ok-end.ensures above below x told c.in_err-before.field-0.0 c.in_err-before.ensures in
     record { answer = q.1 ∙ ap Err q.2 ∙ sym (ap accepted e); page = sym (ap (λ o. after o p) e); untouched = λ _. refl }
 
@@ -73,8 +73,8 @@ returns-in_err-following g c =
     let below : c.from-n.result < p.len = omega arith in
     let x : Pair = record { first = c.in_ok-neighbours-2.neighbours.first; second = c.in_ok-neighbours-2.neighbours.second } in
     let some : c.neighbours.result ≡ Ok (Some c.in_ok-neighbours-2.neighbours) = search rules in
-    let told = sym (ap neighbours_told some) ∙ c.neighbours.ensures in
-    let next = ap (λ w. next_told (g.S.StepSystem.transitions c.args.system.now) c.in_ok-before.before w 256) c.items.ensures.value in
+    let told = sym (ap neighbours_answer some) ∙ c.neighbours.ensures in
+    let next = ap (λ w. next_answer (g.S.StepSystem.transitions c.args.system.now) c.in_ok-before.before w 256) c.items.ensures.value in
     let e = ap (λ k. swapped (g.S.StepSystem.transitions c.args.system.now) (g.S.StepSystem.independence c.args.system.now) k p) (sym c.from-n.ensures) ∙ swapped_too_long (g.S.StepSystem.transitions c.args.system.now) (g.S.StepSystem.independence c.args.system.now) p c.from-n.result c.in_ok-end.field-0 c.in_ok-end.ensures above below x told c.in_ok-before.before c.in_err-following.field-0.0 c.in_ok-before.ensures (c.in_err-following.ensures ∙ next) in
     record { answer = q.1 ∙ ap Err q.2 ∙ sym (ap accepted e); page = sym (ap (λ o. after o p) e); untouched = λ _. refl }
 
@@ -86,7 +86,7 @@ returns g c =
     let below : c.from-n.result < p.len = omega arith in
     let x : Pair = record { first = c.in_ok-neighbours-2.neighbours.first; second = c.in_ok-neighbours-2.neighbours.second } in
     let some : c.neighbours.result ≡ Ok (Some c.in_ok-neighbours-2.neighbours) = search rules in
-    let told = sym (ap neighbours_told some) ∙ c.neighbours.ensures in
-    let next = ap (λ w. next_told (g.S.StepSystem.transitions c.args.system.now) c.in_ok-before.before w 256) c.items.ensures.value in
+    let told = sym (ap neighbours_answer some) ∙ c.neighbours.ensures in
+    let next = ap (λ w. next_answer (g.S.StepSystem.transitions c.args.system.now) c.in_ok-before.before w 256) c.items.ensures.value in
     let e = ap (λ k. swapped (g.S.StepSystem.transitions c.args.system.now) (g.S.StepSystem.independence c.args.system.now) k p) (sym c.from-n.ensures) ∙ swapped_done (g.S.StepSystem.transitions c.args.system.now) (g.S.StepSystem.independence c.args.system.now) p c.from-n.result c.in_ok-end.field-0 c.in_ok-end.ensures above below x told c.in_ok-before.before c.in_ok-following.field-0 c.in_ok-before.ensures (c.in_ok-following.ensures ∙ next) in
     record { answer = sym (ap accepted e); page = ap (λ st. page_with st p.len p.start (set (set c.args.self.now.rows (c.from-n.result - 1) c.in_ok-neighbours-2.neighbours.first) c.from-n.result c.in_ok-neighbours-2.neighbours.second)) (stands (g.S.StepSystem.transitions c.args.system.now) Open p c.in_ok-end.field-0 c.in_ok-end.ensures).0 ∙ sym (ap (λ o. after o p) e); untouched = λ h. absurd (false≢true h) }

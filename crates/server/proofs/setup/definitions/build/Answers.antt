@@ -4,7 +4,7 @@ use Rattle.frame.specs.declared.fault.FrameFault.{FrameFault}
 use Rattle.frame.specs.declared.fault.FrameFault.TheVariants.{BadSetup}
 use Rattle.frame.specs.Parts.{bodies}
 use Rattle.frame.specs.Systems.{bodies_of}
-use Rattle.terms.specs.Bodies.{terms_in, add_told, bodies_after, place_of}
+use Rattle.terms.specs.Bodies.{terms_in, add_answer, bodies_after, place_of}
 use Rattle.server.specs.TermsSetup.{behind, given}
 use Rattle.server.proofs.Given.{behind_none, behind_more, given_all, given_on, given_bad, taken_fault, taken_after, refused_fault}
 use Rattle.server.proofs.setup.definitions.build.Goals as goal
@@ -35,7 +35,7 @@ returns-in-Err c =
     let n = length (bodies_of c.args.definitions.now) in
     let ss = c.loop-definition.terms.bodies in
     let room : length ss < n = omega (arith, inv.left, ap length step.first) in
-    let told : Err c.in-Err.fault ≡ add_told n ss c.in-Some.definition.body.now = c.in-Err.ensures.answer ∙ ap (λ k. add_told k ss c.in-Some.definition.body.now) inv.count in
+    let told : Err c.in-Err.fault ≡ add_answer n ss c.in-Some.definition.body.now = c.in-Err.ensures.answer ∙ ap (λ k. add_answer k ss c.in-Some.definition.body.now) inv.count in
     let bad = given_bad start n ss (bodies c.loop-definition.definition-iterator.count c.loop-definition.definition-iterator.rest.now) _ inv.so_far c.in-Some.definition.body.now (bodies c.next.new.self.count c.next.new.self.rest.now) step.first (place_of c.in-Err.fault) (refused_fault n ss c.in-Some.definition.body.now room c.in-Err.fault told) in
     let at : c.in-Some.definition.place + c.place.result ≡ behind start ss + place_of c.in-Err.fault = omega (arith, step.stands, inv.place, c.place.ensures) in
     ap (λ k. Err (BadSetup k)) at ∙ ap (λ r. elim r as (λ _. Result (List Term) FrameFault) [ Ok ss ↦ Ok (terms_in n ss) | Err f ↦ Err f ]) bad
@@ -49,7 +49,7 @@ loop-definition-preserved c =
     let ss = c.loop-definition.terms.bodies in
     let s = c.in-Some.definition.body.now in
     let room : length ss < n = omega (arith, inv.left, ap length step.first) in
-    let told : Ok tt ≡ add_told n ss s = c.in_default.ensures.answer ∙ ap (λ k. add_told k ss s) inv.count in
+    let told : Ok tt ≡ add_answer n ss s = c.in_default.ensures.answer ∙ ap (λ k. add_answer k ss s) inv.count in
     let after : c.add.new.self.bodies ≡ ss ++ s ∷ [] = c.add.ensures.bodies ∙ ap (λ k. bodies_after k ss s) inv.count ∙ taken_after n ss s room told in
     record {
       can = tt;
