@@ -1,5 +1,5 @@
 -- Actions and names, as numbers. Assumes nothing.
-use Rattle.std.specs.Prelude.{ℕ, ◌+◌, ◌-◌, Bool, cond, ◌&&◌, ◌||◌, nat_eq, nat_le}
+use Rattle.std.specs.Prelude.{ℕ, ◌+◌, ◌-◌, Bool, ◌&&◌, ◌||◌, nat_eq, nat_le, if◌then◌else◌}
 
 -- names are 1 to 63
 abbrev pub is_name : ℕ → Bool
@@ -15,7 +15,7 @@ is_action a = nat_eq a 0 || (is_name a || is_co_name a)
 
 -- the name of a name or a co-name; 0, which is no name, of the silent action
 abbrev pub name_of : ℕ → ℕ
-name_of a = cond (nat_le a 63) a (a - 64)
+name_of a = if nat_le a 63 then a else a - 64
 
 -- a name and its co-name, in either order
 abbrev pub complementary : ℕ → ℕ → Bool

@@ -1,5 +1,5 @@
 // Lists of names, as a mask has one.
-ghost use Rattle.std.specs.Prelude.{◌≡◌, true};
+ghost use Rattle.std.specs.Prelude.{◌≡◌, IsTrue};
 ghost use Rattle.actions.specs.Names.{all_names};
 
 use byte_strings::list::FixedList;
@@ -13,7 +13,7 @@ pub const NAME_LIMIT: usize = 8;
 #[derive(Clone, Copy)]
 pub struct Names {
     items: FixedList<u8, NAME_LIMIT>,
-    ghost sound: { all_names items ≡ true },
+    ghost sound: { IsTrue (all_names items) },
 }
 
 // Why a list does not take a name.

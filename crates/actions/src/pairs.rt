@@ -1,5 +1,5 @@
 // Pairs of names, as a renaming has them.
-ghost use Rattle.std.specs.Prelude.{◌≡◌, true};
+ghost use Rattle.std.specs.Prelude.{◌≡◌, IsTrue};
 ghost use Rattle.actions.specs.Pairs.{sound_pairs};
 
 use byte_strings::list::{Blank, FixedList};
@@ -21,7 +21,7 @@ pub struct Pair {
 #[derive(Clone, Copy)]
 pub struct Pairs {
     items: FixedList<Pair, PAIR_LIMIT>,
-    ghost sound: { sound_pairs items ≡ true },
+    ghost sound: { IsTrue (sound_pairs items) },
 }
 
 // Why a list does not take a pair.

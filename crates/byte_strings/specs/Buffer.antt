@@ -1,5 +1,5 @@
 -- What is answered where a string is asked for in a lent buffer, and every byte of the buffer afterwards. Assumes nothing.
-use Rattle.std.specs.Prelude.{ℕ, cond, List, ◌++◌, length, drop, Some, None, Ok, Err, Option, Result, nat_le}
+use Rattle.std.specs.Prelude.{ℕ, List, ◌++◌, length, drop, Some, None, Ok, Err, Option, Result, nat_le, if◌then◌else◌}
 
 -- a string of bytes
 abbrev pub Str : Type 0
@@ -31,7 +31,7 @@ buffer_after_some (Err f) buffer = buffer
 
 -- a string copied over the front of a buffer that has room for it
 abbrev pub copy_length : Str → ℕ → Option ℕ
-copy_length s n = cond (nat_le (length s) n) (Some (length s)) None
+copy_length s n = if nat_le (length s) n then Some (length s) else None
 
 abbrev pub buffer_after_copy : Str → Str → Str
-buffer_after_copy s buffer = cond (nat_le (length s) (length buffer)) (over s buffer) buffer
+buffer_after_copy s buffer = if nat_le (length s) (length buffer) then over s buffer else buffer

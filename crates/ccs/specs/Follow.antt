@@ -1,5 +1,5 @@
 -- Which term follows by a proof, and which nodes of the proof do not fit. Assumes nothing.
-use Rattle.std.specs.Prelude.{◌≡◌, ℕ, suc, ◌+◌, Bool, true, false, cond, length, Ok, Err, Result, nat_eq}
+use Rattle.std.specs.Prelude.{◌≡◌, ℕ, suc, ◌+◌, Bool, true, false, length, Ok, Err, Result, nat_eq, IsTrue, if◌then◌else◌}
 use Rattle.ccs.specs.Syntax.{Term, Proof}
 use Rattle.ccs.specs.Syntax.Term.{nil, prefix, par, sum, restrict, call}
 use Rattle.ccs.specs.Syntax.Proof.{act, on_left, on_right, both, choose_left, choose_right, under}
@@ -26,7 +26,7 @@ plain (call d) = false
 
 -- The node at this place, from 0, of the proof's bytes does not fit the term that it comes to.
 pub data MisfitAt (body : ℕ → Term) : Term → Proof → ℕ → Type 0 where
-  here : {p : Term} {t : Proof} → plain p ≡ true → (Suits p t → ⊥) → MisfitAt body p t 0
+  here : {p : Term} {t : Proof} → IsTrue (plain p) → (Suits p t → ⊥) → MisfitAt body p t 0
   on_the_left : {p q : Term} {t : Proof} {k : ℕ} → MisfitAt body p t k → MisfitAt body (par p q) (on_left t) (suc k)
   on_the_right : {p q : Term} {t : Proof} {k : ℕ} → MisfitAt body q t k → MisfitAt body (par p q) (on_right t) (suc k)
   in_first : {p q : Term} {t u : Proof} {k : ℕ} → MisfitAt body p t k → MisfitAt body (par p q) (both t u) (suc k)
@@ -74,10 +74,10 @@ both_sides_go n (Err k) r = Err (1 + k)
 
 -- the term that follows, or the place of the first node that does not fit
 unfoldable pub follow : (ℕ → Term) → Term → Proof → Result Term ℕ
-follow body p (act b) = on_prefix (unfold_call body p) (λ a q. cond (nat_eq a b) (Ok q) (Err 0))
+follow body p (act b) = on_prefix (unfold_call body p) (λ a q. if nat_eq a b then Ok q else Err 0)
 follow body p (on_left t) = on_par (unfold_call body p) (λ q r. around 1 (λ q'. par q' r) (follow body q t))
 follow body p (on_right t) = on_par (unfold_call body p) (λ q r. around 1 (λ r'. par q r') (follow body r t))
 follow body p (both t u) = on_par (unfold_call body p) (λ q r. both_sides_go (length (proof_bytes t)) (follow body q t) (follow body r u))
 follow body p (choose_left t) = on_sum (unfold_call body p) (λ q r. around 1 (λ q'. q') (follow body q t))
 follow body p (choose_right t) = on_sum (unfold_call body p) (λ q r. around 1 (λ r'. r') (follow body r t))
-follow body p (under m t) = on_restrict (unfold_call body p) (λ n q. cond (nat_eq n m) (around 2 (restrict n) (follow body q t)) (Err 0))
+follow body p (under m t) = on_restrict (unfold_call body p) (λ n q. if nat_eq n m then around 2 (restrict n) (follow body q t) else Err 0)

@@ -1,5 +1,5 @@
 -- What follows a term, by the transition rules. Assumes nothing.
-use Rattle.std.specs.Prelude.{◌≡◌, ℕ, true, ◌↔◌, List, length, Ok, Err}
+use Rattle.std.specs.Prelude.{◌≡◌, ℕ, ◌↔◌, List, length, Ok, Err, IsTrue}
 use Rattle.steps.specs.Meaning.{Str}
 use Rattle.ccs.specs.Syntax.{Term, Proof}
 use Rattle.ccs.specs.Label.{label, proper}
@@ -15,22 +15,22 @@ pub record Goes (ds : List Term) (a x b : Str) : Type 0 where
   pub t : Proof
   pub q : Term
   pub state : term_bytes p ≡ a
-  pub state_sound : sound_term (length ds) p ≡ true
+  pub state_sound : IsTrue (sound_term (length ds) p)
   pub step : proof_bytes t ≡ x
-  pub step_sound : sound_proof t ≡ true
-  pub is_proper : proper t ≡ true
+  pub step_sound : IsTrue (sound_proof t)
+  pub is_proper : IsTrue (proper t)
   pub moves : Moves (body_of ds) p t q
   pub end : term_bytes q ≡ b
 
 -- a step leads from a state to another exactly where the rules say so
 abbrev pub NextByRules : Type 0
-NextByRules = (ds : List Term) → sound_bodies (length ds) ds ≡ true → (a x b : Str) → ((terms_transitions ds).next a x ≡ Ok b) ↔ Goes ds a x b
+NextByRules = (ds : List Term) → IsTrue (sound_bodies (length ds) ds) → (a x b : Str) → ((terms_transitions ds).next a x ≡ Ok b) ↔ Goes ds a x b
 
 -- where a step is not possible in a state, the first node that does not fit is told
 abbrev pub MisfitsTold : Type 0
-MisfitsTold = (ds : List Term) → sound_bodies (length ds) ds ≡ true → (p : Term) (t : Proof) (k : ℕ) → sound_term (length ds) p ≡ true → sound_proof t ≡ true → proper t ≡ true →
+MisfitsTold = (ds : List Term) → IsTrue (sound_bodies (length ds) ds) → (p : Term) (t : Proof) (k : ℕ) → IsTrue (sound_term (length ds) p) → IsTrue (sound_proof t) → IsTrue (proper t) →
     (terms_transitions ds).next (term_bytes p) (proof_bytes t) ≡ Err k → First (MisfitAt (body_of ds) p t) k
 
 -- a step shows what its proof does
 abbrev pub LabelsShown : Type 0
-LabelsShown = (ds : List Term) (t : Proof) → sound_proof t ≡ true → (terms_transitions ds).label (proof_bytes t) ≡ record { action = label t }
+LabelsShown = (ds : List Term) (t : Proof) → IsTrue (sound_proof t) → (terms_transitions ds).label (proof_bytes t) ≡ record { action = label t }

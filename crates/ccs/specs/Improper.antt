@@ -1,5 +1,5 @@
 -- Which nodes of a proof are improper. Assumes nothing.
-use Rattle.std.specs.Prelude.{◌≡◌, ℕ, suc, ◌+◌, true, false, cond, length, Some, None, Option, nat_eq}
+use Rattle.std.specs.Prelude.{◌≡◌, ℕ, suc, ◌+◌, length, Some, None, Option, nat_eq, IsTrue, IsFalse, if◌then◌else◌}
 use Rattle.ccs.specs.Syntax.{Proof}
 use Rattle.ccs.specs.Syntax.Proof.{act, on_left, on_right, both, choose_left, choose_right, under}
 use Rattle.actions.specs.Action.{name_of, complementary}
@@ -8,8 +8,8 @@ use Rattle.ccs.specs.Spelling.{proof_bytes}
 
 -- The node at this place, from 0, of the proof's bytes is improper: two sides that show no name and its co-name, or a restriction of the name that is shown.
 pub data ImproperAt : Proof → ℕ → Type 0 where
-  apart : {t u : Proof} → complementary (label t) (label u) ≡ false → ImproperAt (both t u) 0
-  shown : {n : ℕ} {t : Proof} → nat_eq (name_of (label t)) n ≡ true → ImproperAt (under n t) 0
+  apart : {t u : Proof} → IsFalse (complementary (label t) (label u)) → ImproperAt (both t u) 0
+  shown : {n : ℕ} {t : Proof} → IsTrue (nat_eq (name_of (label t)) n) → ImproperAt (under n t) 0
   in_left : {t : Proof} {k : ℕ} → ImproperAt t k → ImproperAt (on_left t) (suc k)
   in_right : {t : Proof} {k : ℕ} → ImproperAt t k → ImproperAt (on_right t) (suc k)
   in_first : {t u : Proof} {k : ℕ} → ImproperAt t k → ImproperAt (both t u) (suc k)
@@ -32,7 +32,7 @@ unfoldable pub improper : Proof → Option ℕ
 improper (act a) = None
 improper (on_left t) = further 1 (improper t)
 improper (on_right t) = further 1 (improper t)
-improper (both t u) = cond (complementary (label t) (label u)) (or_else (further 1 (improper t)) (further (suc (length (proof_bytes t))) (improper u))) (Some 0)
+improper (both t u) = if complementary (label t) (label u) then or_else (further 1 (improper t)) (further (suc (length (proof_bytes t))) (improper u)) else Some 0
 improper (choose_left t) = further 1 (improper t)
 improper (choose_right t) = further 1 (improper t)
-improper (under n t) = cond (nat_eq (name_of (label t)) n) (Some 0) (further 2 (improper t))
+improper (under n t) = if nat_eq (name_of (label t)) n then Some 0 else further 2 (improper t)

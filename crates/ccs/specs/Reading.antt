@@ -1,5 +1,5 @@
 -- Reading bytes: the terms or proofs that they are, or the first byte that fits none. Assumes nothing.
-use Rattle.std.specs.Prelude.{ℕ, zero, suc, Bool, true, false, cond, ◌&&◌, List, [], ◌∷◌, Some, None, Ok, Err, Option, Result, nat_eq, nat_le, nat_lt}
+use Rattle.std.specs.Prelude.{ℕ, zero, suc, Bool, true, false, ◌&&◌, List, [], ◌∷◌, Some, None, Ok, Err, Option, Result, nat_eq, nat_le, nat_lt, if◌then◌else◌}
 use Rattle.steps.specs.Meaning.{Str}
 use Rattle.ccs.specs.Syntax.{Term, Proof}
 use Rattle.ccs.specs.Syntax.Term.{nil, prefix, par, sum, restrict, call}
@@ -37,7 +37,7 @@ onward (Some n) rest = behind n.build (rest n.due n.count)
 
 -- So many, one behind the other and nothing else. Else the place of the first byte that fits none.
 unfoldable pub read : {A : Type 0} → (Due → ℕ → ℕ → Option (Next A)) → Due → ℕ → Str → Result (List A) ℕ
-read byte due k [] = cond (finished due k) (Ok []) (Err 0)
+read byte due k [] = if finished due k then Ok [] else Err 0
 read byte due k (b ∷ s) = onward (byte due k b) (λ d j. read byte d j s)
 
 -- a node alone before what is read behind it, or around the first of that, or around the first two
@@ -67,29 +67,29 @@ before d k = Some (record { due = d; count = k; build = λ xs. xs })
 unfoldable pub term_byte : ℕ → Due → ℕ → ℕ → Option (Next Term)
 term_byte n node zero b = None
 term_byte n node (suc k) b =
-    cond (nat_eq b 0x00) (alone nil k)
-    (cond (nat_eq b 0x01) (before action k)
-    (cond (nat_eq b 0x02) (with_parts par k)
-    (cond (nat_eq b 0x03) (with_parts sum k)
-    (cond (nat_eq b 0x04) (before name k)
-    (cond (nat_eq b 0x05 && nat_le 1 n) (before number k) None)))))
-term_byte n action k a = cond (is_action a) (with_part (prefix a) k) None
-term_byte n name k m = cond (is_name m) (with_part (restrict m) k) None
-term_byte n number k d = cond (nat_lt d n) (alone (call d) k) None
+    if nat_eq b 0x00 then alone nil k
+    else if nat_eq b 0x01 then before action k
+    else if nat_eq b 0x02 then with_parts par k
+    else if nat_eq b 0x03 then with_parts sum k
+    else if nat_eq b 0x04 then before name k
+    else if nat_eq b 0x05 && nat_le 1 n then before number k else None
+term_byte n action k a = if is_action a then with_part (prefix a) k else None
+term_byte n name k m = if is_name m then with_part (restrict m) k else None
+term_byte n number k d = if nat_lt d n then alone (call d) k else None
 
 -- a byte of proofs
 unfoldable pub proof_byte : Due → ℕ → ℕ → Option (Next Proof)
 proof_byte node zero b = None
 proof_byte node (suc k) b =
-    cond (nat_eq b 0x10) (before action k)
-    (cond (nat_eq b 0x11) (with_part on_left k)
-    (cond (nat_eq b 0x12) (with_part on_right k)
-    (cond (nat_eq b 0x13) (with_parts both k)
-    (cond (nat_eq b 0x14) (with_part choose_left k)
-    (cond (nat_eq b 0x15) (with_part choose_right k)
-    (cond (nat_eq b 0x16) (before name k) None))))))
-proof_byte action k a = cond (is_action a) (alone (act a) k) None
-proof_byte name k m = cond (is_name m) (with_part (under m) k) None
+    if nat_eq b 0x10 then before action k
+    else if nat_eq b 0x11 then with_part on_left k
+    else if nat_eq b 0x12 then with_part on_right k
+    else if nat_eq b 0x13 then with_parts both k
+    else if nat_eq b 0x14 then with_part choose_left k
+    else if nat_eq b 0x15 then with_part choose_right k
+    else if nat_eq b 0x16 then before name k else None
+proof_byte action k a = if is_action a then alone (act a) k else None
+proof_byte name k m = if is_name m then with_part (under m) k else None
 proof_byte number k d = None
 
 -- a string as one term, or as one proof

@@ -1,5 +1,5 @@
 -- What is left of a proof after an independent one, and of which proof one is left. Assumes nothing.
-use Rattle.std.specs.Prelude.{cond, Some, None, Option, nat_eq}
+use Rattle.std.specs.Prelude.{Some, None, Option, nat_eq, if◌then◌else◌}
 use Rattle.ccs.specs.Syntax.{Proof}
 use Rattle.ccs.specs.Syntax.Proof.{on_left, on_right, both, choose_left, choose_right, under}
 
@@ -23,7 +23,7 @@ residual (both u v) (on_right t) = inside (λ v'. both u v') (residual v t)
 residual (both t u) (both v w) = in_both (residual t v) (residual u w)
 residual (on_left t) (on_left u) = inside on_left (residual t u)
 residual (on_right t) (on_right u) = inside on_right (residual t u)
-residual (under n t) (under m u) = cond (nat_eq n m) (inside (under n) (residual t u)) None
+residual (under n t) (under m u) = if nat_eq n m then inside (under n) (residual t u) else None
 residual (choose_left t) (choose_left u) = residual t u
 residual (choose_right t) (choose_right u) = residual t u
 residual t u = None
@@ -41,5 +41,5 @@ origin (on_right t) (both u v) = inside (λ v'. both u v') (origin t v)
 origin (both v w) (both t u) = in_both (origin v t) (origin w u)
 origin (on_left u) (on_left t) = inside on_left (origin u t)
 origin (on_right u) (on_right t) = inside on_right (origin u t)
-origin (under m u) (under n t) = cond (nat_eq n m) (inside (under n) (origin u t)) None
+origin (under m u) (under n t) = if nat_eq n m then inside (under n) (origin u t) else None
 origin x z = None

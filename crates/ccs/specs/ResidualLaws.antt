@@ -1,5 +1,5 @@
 -- Independence, what is left, and back, by the rules. Assumes nothing.
-use Rattle.std.specs.Prelude.{◌≡◌, true, ◌↔◌, List, length, Some}
+use Rattle.std.specs.Prelude.{◌≡◌, ◌↔◌, List, length, Some, IsTrue}
 use Rattle.steps.specs.Meaning.{Str}
 use Rattle.steps.specs.Laws.{Laws}
 use Rattle.ccs.specs.Syntax.{Term, Proof}
@@ -15,11 +15,11 @@ pub record Leaves (x y z : Str) : Type 0 where
   pub t' : Proof
   pub u' : Proof
   pub first : proof_bytes t ≡ x
-  pub first_sound : sound_proof t ≡ true
-  pub first_proper : proper t ≡ true
+  pub first_sound : IsTrue (sound_proof t)
+  pub first_proper : IsTrue (proper t)
   pub second : proof_bytes u ≡ y
-  pub second_sound : sound_proof u ≡ true
-  pub second_proper : proper u ≡ true
+  pub second_sound : IsTrue (sound_proof u)
+  pub second_proper : IsTrue (proper u)
   pub after : After t u t' u'
   pub rest : proof_bytes t' ≡ z
 
@@ -32,4 +32,4 @@ BackUndoesLeft = (x y z : Str) → (terms_independence.back x z ≡ Some y) ↔ 
 
 -- terms over sound definitions are a step system
 abbrev pub Lawful : Type 0
-Lawful = (ds : List Term) → sound_bodies (length ds) ds ≡ true → Laws (terms_transitions ds) terms_independence
+Lawful = (ds : List Term) → IsTrue (sound_bodies (length ds) ds) → Laws (terms_transitions ds) terms_independence

@@ -1,5 +1,5 @@
 -- Terms over some definitions as a step system: its states are terms, and its steps proper proofs. Assumes nothing.
-use Rattle.std.specs.Prelude.{ℕ, min, Bool, true, false, cond, ◌&&◌, List, [], ◌∷◌, length, is_ok, Some, None, Ok, Err, Option, Result, nat_le, slice_index_or}
+use Rattle.std.specs.Prelude.{ℕ, min, Bool, true, false, ◌&&◌, List, [], ◌∷◌, length, is_ok, Some, None, Ok, Err, Option, Result, nat_le, slice_index_or, if◌then◌else◌}
 use Rattle.std.specs.Result.{result_err}
 use Rattle.steps.specs.declared.label.Label.{Label}
 use Rattle.steps.specs.Meaning.{Str, Transitions, Independence}
@@ -60,7 +60,7 @@ of_both f (Err k) r = None
 -- the place of the first byte that fits none; a byte past the limit never does
 abbrev pub past : ℕ → Str → Option ℕ → Option ℕ
 past limit s (Some k) = Some (min k limit)
-past limit s None = cond (nat_le (length s) limit) None (Some limit)
+past limit s None = if nat_le (length s) limit then None else Some limit
 
 abbrev pub improper_of : Result Proof ℕ → Option ℕ
 improper_of (Ok t) = improper t

@@ -1,5 +1,5 @@
 -- The events of a setup, as numbers. Assumes nothing.
-use Rattle.std.specs.Prelude.{◌≡◌, ℕ, ◌+◌, ◌*◌, cond, List, [], ◌∷◌, length, take, drop, Some, None, Option, nat_le, slice_index}
+use Rattle.std.specs.Prelude.{◌≡◌, ℕ, ◌+◌, ◌*◌, List, [], ◌∷◌, length, take, drop, Some, None, Option, nat_le, slice_index, if◌then◌else◌}
 use Rattle.nets.specs.declared.event.Event.{Event}
 
 -- the number that bytes spell behind a number, and on their own: the greatest place comes first
@@ -16,7 +16,7 @@ event_of bs = record { action = slice_index bs 0; before = big_endian (take 8 (d
 
 -- the event at an index of those that stand one behind the other
 abbrev pub event_answer : List ℕ → ℕ → Option Event
-event_answer events i = cond (nat_le (17 * i + 17) (length events)) (Some (event_of (take 17 (drop (17 * i) events)))) None
+event_answer events i = if nat_le (17 * i + 17) (length events) then Some (event_of (take 17 (drop (17 * i) events))) else None
 
 -- The first of events that stand one behind the other, and what stands behind it; or none, and all bytes are left.
 abbrev pub NextEvent : List ℕ → Option Event → List ℕ → Type 0

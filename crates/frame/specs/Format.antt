@@ -1,5 +1,5 @@
 -- What reading a frame promises, in words of the format alone. Assumes nothing.
-use Rattle.std.specs.Prelude.{◌≡◌, ◌≢◌, ℕ, ◌+◌, ◌*◌, ◌<◌, ◌≤◌, true, false, ◌↔◌, List, ◌∷◌, ◌++◌, length, take, drop, Ok, Err}
+use Rattle.std.specs.Prelude.{◌≡◌, ◌≢◌, ℕ, ◌+◌, ◌*◌, ◌<◌, ◌≤◌, ◌↔◌, List, ◌∷◌, ◌++◌, length, take, drop, Ok, Err, IsTrue, IsFalse}
 use Rattle.std.specs.List.{All, Contains}
 use Rattle.actions.specs.declared.pairs.Pair.{Pair}
 use Rattle.actions.specs.Action.{is_name}
@@ -37,13 +37,13 @@ Replaces pairs n = (p : Pair) × Contains pairs p × (p.from ≡ n)
 
 -- Pairs are bad at the first byte that breaks a rule: the pairs before its own are in order.
 pub data PairsBadAt : List Pair → ℕ → Type 0 where
-  from_no_name : (front : List Pair) (p : Pair) (back : List Pair) → sound_pairs front ≡ true → is_name p.from ≡ false → PairsBadAt (front ++ p ∷ back) (pair_place front)
-  from_twice : (front : List Pair) (p : Pair) (back : List Pair) → sound_pairs front ≡ true → is_name p.from ≡ true → Replaces front p.from → PairsBadAt (front ++ p ∷ back) (pair_place front)
-  to_no_name : (front : List Pair) (p : Pair) (back : List Pair) → sound_pairs front ≡ true → is_name p.from ≡ true → (Replaces front p.from → ⊥) → is_name p.to ≡ false → PairsBadAt (front ++ p ∷ back) (pair_place front + 1)
+  from_no_name : (front : List Pair) (p : Pair) (back : List Pair) → IsTrue (sound_pairs front) → IsFalse (is_name p.from) → PairsBadAt (front ++ p ∷ back) (pair_place front)
+  from_twice : (front : List Pair) (p : Pair) (back : List Pair) → IsTrue (sound_pairs front) → IsTrue (is_name p.from) → Replaces front p.from → PairsBadAt (front ++ p ∷ back) (pair_place front)
+  to_no_name : (front : List Pair) (p : Pair) (back : List Pair) → IsTrue (sound_pairs front) → IsTrue (is_name p.from) → (Replaces front p.from → ⊥) → IsFalse (is_name p.to) → PairsBadAt (front ++ p ∷ back) (pair_place front + 1)
 
 -- Names, behind pairs, are bad at the first byte that is none.
 pub data NamesBadAt (pairs : List Pair) : List ℕ → ℕ → Type 0 where
-  no_name : (front : List ℕ) (n : ℕ) (back : List ℕ) → all_names front ≡ true → is_name n ≡ false → NamesBadAt pairs (front ++ n ∷ back) (name_place pairs front)
+  no_name : (front : List ℕ) (n : ℕ) (back : List ℕ) → IsTrue (all_names front) → IsFalse (is_name n) → NamesBadAt pairs (front ++ n ∷ back) (name_place pairs front)
 
 -- A setup is bad at its kind, or it is laid out and bad at the first byte that breaks a rule: all before it is in order.
 pub data BadAt : List ℕ → ℕ → Type 0 where

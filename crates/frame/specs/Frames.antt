@@ -1,5 +1,5 @@
 -- The frames: what each holds, and its bytes. Assumes nothing.
-use Rattle.std.specs.Prelude.{◌≡◌, ℕ, ◌+◌, ◌*◌, ◌/◌, ◌<◌, ◌≤◌, true, List, [], ◌∷◌, ◌++◌, length, Some, None, Option}
+use Rattle.std.specs.Prelude.{◌≡◌, ℕ, ◌+◌, ◌*◌, ◌/◌, ◌<◌, ◌≤◌, List, [], ◌∷◌, ◌++◌, length, Some, None, Option, IsTrue}
 use Rattle.std.specs.List.{All}
 use Rattle.actions.specs.declared.pairs.Pair.{Pair}
 pub use Rattle.actions.specs.Pairs.{sound_pairs, pair_limit}
@@ -107,11 +107,11 @@ frame_limit = 1024
 
 -- At most 8 pairs, of names only, in which none is replaced by two.
 abbrev pub PairsAllowed : List Pair → Type 0
-PairsAllowed pairs = (length pairs ≤ pair_limit) × (sound_pairs pairs ≡ true)
+PairsAllowed pairs = (length pairs ≤ pair_limit) × IsTrue (sound_pairs pairs)
 
 -- At most 8 names, and nothing else.
 abbrev pub NamesAllowed : List ℕ → Type 0
-NamesAllowed names = (length names ≤ name_limit) × (all_names names ≡ true)
+NamesAllowed names = (length names ≤ name_limit) × IsTrue (all_names names)
 
 -- A system has at most 16 definitions, or 48 events; or it has more.
 abbrev pub Few : SystemView → Type 0

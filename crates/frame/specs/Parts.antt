@@ -1,10 +1,10 @@
 -- The counted parts of a setup, taken off the front of its bytes. Assumes nothing.
-use Rattle.std.specs.Prelude.{ℕ, zero, suc, ◌*◌, cond, List, [], ◌∷◌, length, take, drop, Some, None, Option, nat_le}
+use Rattle.std.specs.Prelude.{ℕ, zero, suc, ◌*◌, List, [], ◌∷◌, length, take, drop, Some, None, Option, nat_le, if◌then◌else◌}
 
 -- counted items of a size, and what stands behind them; none where bytes are missing
 abbrev pub part_answer : ℕ → List ℕ → Option (List ℕ × List ℕ)
 part_answer size [] = None
-part_answer size (count ∷ s) = cond (nat_le (count * size) (length s)) (Some (take (count * size) s, drop (count * size) s)) None
+part_answer size (count ∷ s) = if nat_le (count * size) (length s) then Some (take (count * size) s, drop (count * size) s) else None
 
 -- what stands behind so many counted bodies; none where bytes are missing
 unfoldable pub behind_answer : ℕ → List ℕ → Option (List ℕ)

@@ -1,5 +1,5 @@
 -- What reading a frame answers, step by step. Assumes nothing.
-use Rattle.std.specs.Prelude.{ℕ, ◌+◌, ◌-◌, cond, List, [], ◌∷◌, length, Some, None, Ok, Err, Option, Result, ◌==◌, nat_le}
+use Rattle.std.specs.Prelude.{ℕ, ◌+◌, ◌-◌, List, [], ◌∷◌, length, Some, None, Ok, Err, Option, Result, ◌==◌, nat_le, if◌then◌else◌}
 use Rattle.std.specs.Borrow.{Bor}
 use Rattle.actions.specs.Contents.{pairs_of, names_of}
 use Rattle.frame.specs.declared.fault.FrameFault.{FrameFault}
@@ -94,15 +94,15 @@ layout_view (Some (s, behind)) = Some (record { pairs = s.pairs.now; names = s.n
 -- missing bytes are told behind the end, and extra ones where they begin
 abbrev pub parts_answer : ℕ → Option Layout → Result FrameView FrameFault
 parts_answer end None = Err (Malformed end)
-parts_answer end (Some l) = cond (length l.behind == 0) (rules_answer l.pairs l.names l.system) (Err (Malformed (end - length l.behind)))
+parts_answer end (Some l) = if length l.behind == 0 then rules_answer l.pairs l.names l.system else Err (Malformed (end - length l.behind))
 
 -- what stands behind the first byte of a setup
 abbrev pub setup_answer : List ℕ → Result FrameView FrameFault
 setup_answer [] = Err (Malformed 1)
 setup_answer (kind ∷ s) =
-    cond (kind == 1) (parts_answer (length s + 2) (layout_answer Terms s))
-    (cond (kind == 2) (parts_answer (length s + 2) (layout_answer Net s))
-    (Err (BadSetup 1)))
+    if kind == 1 then parts_answer (length s + 2) (layout_answer Terms s)
+    else if kind == 2 then parts_answer (length s + 2) (layout_answer Net s)
+    else Err (BadSetup 1)
 
 -- a sheet and the rest of the frame; a sheet alone; a sheet and one byte more
 abbrev pub sheet_rest_answer : (ℕ → List ℕ → FrameView) → List ℕ → Result FrameView FrameFault
@@ -122,17 +122,17 @@ sheet_byte_answer call (sheet ∷ byte ∷ extra ∷ rest) = Err (Malformed 3)
 
 abbrev pub call_answer : ℕ → List ℕ → Result FrameView FrameFault
 call_answer call rest =
-    cond (call == 0xA0) (setup_answer rest)
-    (cond (call == 0xB0) (sheet_rest_answer open_sheet rest)
-    (cond (call == 0xB1) (sheet_rest_answer add rest)
-    (cond (call == 0xB2) (sheet_byte_answer swap rest)
-    (cond (call == 0xB3) (sheet_answer withdraw rest)
-    (cond (call == 0xB4) (sheet_byte_answer join rest)
-    (cond (call == 0xB5) (sheet_answer release rest)
-    (cond (call == 0xB6) (sheet_answer reopen rest)
-    (cond (call == 0xB7) (sheet_answer print rest)
-    (cond (call == 0xB9) (sheet_byte_answer look rest)
-    (Err (Malformed 0)))))))))))
+    if call == 0xA0 then setup_answer rest
+    else if call == 0xB0 then sheet_rest_answer open_sheet rest
+    else if call == 0xB1 then sheet_rest_answer add rest
+    else if call == 0xB2 then sheet_byte_answer swap rest
+    else if call == 0xB3 then sheet_answer withdraw rest
+    else if call == 0xB4 then sheet_byte_answer join rest
+    else if call == 0xB5 then sheet_answer release rest
+    else if call == 0xB6 then sheet_answer reopen rest
+    else if call == 0xB7 then sheet_answer print rest
+    else if call == 0xB9 then sheet_byte_answer look rest
+    else Err (Malformed 0)
 
 abbrev pub string_answer : List ℕ → Result FrameView FrameFault
 string_answer [] = Err (Malformed 0)
@@ -140,4 +140,4 @@ string_answer (call ∷ rest) = call_answer call rest
 
 -- what a frame says; a string longer than any frame is refused behind the longest
 abbrev pub frame_answer : List ℕ → Result FrameView FrameFault
-frame_answer s = cond (nat_le (length s) frame_limit) (string_answer s) (Err (Malformed frame_limit))
+frame_answer s = if nat_le (length s) frame_limit then string_answer s else Err (Malformed frame_limit)

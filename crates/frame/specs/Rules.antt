@@ -1,5 +1,5 @@
 -- The rules of a setup, byte by byte: what is taken, or the place of the first byte that breaks one. Assumes nothing.
-use Rattle.std.specs.Prelude.{ℕ, ◌+◌, ◌*◌, Bool, cond, List, [], ◌∷◌, ◌++◌, length, Some, None, Ok, Err, Result, nat_le}
+use Rattle.std.specs.Prelude.{ℕ, ◌+◌, ◌*◌, Bool, List, [], ◌∷◌, ◌++◌, length, Some, None, Ok, Err, Result, nat_le, if◌then◌else◌}
 use Rattle.actions.specs.declared.pairs.Pair.{Pair}
 use Rattle.actions.specs.declared.pairs.PairFault.{PairFault}
 use Rattle.actions.specs.declared.pairs.PairFault.TheVariants.{Full, FromNoName, FromTwice, ToNoName}
@@ -30,7 +30,7 @@ pairs_added ps place (a ∷ b ∷ s) = elim (pair_added ps (record { from = a; t
 
 -- the pairs of a setup, whose count stands at place 2
 abbrev pub pairs_answer : List ℕ → Result (List Pair) FrameFault
-pairs_answer s = cond (nat_le (length s) (2 * pair_limit)) (pairs_added [] 3 s) (Err (BadSetup 2))
+pairs_answer s = if nat_le (length s) (2 * pair_limit) then pairs_added [] 3 s else Err (BadSetup 2)
 
 -- names and those from the place on, one by one
 unfoldable pub names_added : List ℕ → ℕ → List ℕ → Result (List ℕ) FrameFault
@@ -39,7 +39,7 @@ names_added ns place (n ∷ s) = elim (name_fault ns n) [ None ↦ names_added (
 
 -- the names of a setup, whose count stands at the place
 abbrev pub names_answer : ℕ → List ℕ → Result (List ℕ) FrameFault
-names_answer place s = cond (nat_le (length s) name_limit) (names_added [] (place + 1) s) (Err (BadSetup place))
+names_answer place s = if nat_le (length s) name_limit then names_added [] (place + 1) s else Err (BadSetup place)
 
 -- whether there are at most 16 definitions, or 48 events
 abbrev pub few : SystemView → Bool
@@ -53,6 +53,6 @@ rules_answer pairs names system =
       | Err f ↦ Err f
       | Ok ps ↦ elim (names_answer (3 + length pairs) names) [
         | Err f ↦ Err f
-        | Ok ns ↦ cond (few system) (Ok (setup ps ns system)) (Err (BadSetup (3 + length pairs + 1 + length names)))
+        | Ok ns ↦ if few system then Ok (setup ps ns system) else Err (BadSetup (3 + length pairs + 1 + length names))
       ]
     ]

@@ -1,5 +1,5 @@
 -- Bytes as hexadecimal text, and the bytes that a line of text spells. Assumes nothing.
-use Rattle.std.specs.Prelude.{◌≡◌, ℕ, ◌*◌, ◌/◌, ◌%◌, ◌≤◌, cond, ◌↔◌, List, [], ◌∷◌, map, length, take, Some, None, Ok, Err, Option, Result, ◌==◌}
+use Rattle.std.specs.Prelude.{◌≡◌, ℕ, ◌*◌, ◌/◌, ◌%◌, ◌≤◌, ◌↔◌, List, [], ◌∷◌, map, length, take, Some, None, Ok, Err, Option, Result, ◌==◌, if◌then◌else◌}
 use Rattle.byte_strings.specs.Buffer.{copy_length, buffer_after_copy}
 use Rattle.hexadecimal.specs.Digits.{digit_of, byte_of, capital}
 
@@ -28,7 +28,7 @@ sound (a ∷ b ∷ s) = before (byte_of a b) (sound s)
 
 -- all of the line, where these are the bytes of all of it; else how many there are
 abbrev pub all_or_count : List ℕ → List ℕ → Result (List ℕ) ℕ
-all_or_count line bs = cond (length line == 2 * length bs) (Ok bs) (Err (length bs))
+all_or_count line bs = if length line == 2 * length bs then Ok bs else Err (length bs)
 
 -- what a line spells within n bytes; else how many sound bytes, at most n, stand before the fault
 abbrev pub read_answer : List ℕ → ℕ → Result (List ℕ) ℕ

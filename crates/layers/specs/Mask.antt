@@ -1,5 +1,5 @@
 -- A step system from which steps are taken away by the names that they show. Assumes nothing.
-use Rattle.std.specs.Prelude.{ℕ, Bool, true, false, cond, ◌||◌, List, None, Err}
+use Rattle.std.specs.Prelude.{ℕ, Bool, true, false, ◌||◌, List, None, Err, if◌then◌else◌}
 use Rattle.actions.specs.Names.{hides}
 use Rattle.steps.specs.Meaning.{Str, Transitions, Independence}
 
@@ -13,12 +13,12 @@ module _ (names : List ℕ) (t : Transitions) where
   mask_transitions =
       record {
         state = t.state;
-        step = λ x. cond (stops x) false (t.step x);
+        step = λ x. if stops x then false else t.step x;
         label = t.label;
-        next = λ a x. cond (stops x) (Err 0) (t.next a x);
+        next = λ a x. if stops x then Err 0 else t.next a x;
         bad_state = t.bad_state;
         bad_step = t.bad_step;
-        hidden = λ x. cond (stops x) true (t.hidden x);
+        hidden = λ x. if stops x then true else t.hidden x;
       }
 
   -- whether one of two steps is stopped
@@ -29,6 +29,6 @@ module _ (names : List ℕ) (t : Transitions) where
   abbrev pub mask_independence : Independence → Independence
   mask_independence i =
       record {
-        left = λ x y. cond (stops_one x y) None (i.left x y);
-        back = λ x z. cond (stops_one x z) None (i.back x z);
+        left = λ x y. if stops_one x y then None else i.left x y;
+        back = λ x z. if stops_one x z then None else i.back x z;
       }

@@ -1,5 +1,5 @@
 -- A mask keeps the laws of step systems wherever the system inside does. Assumes nothing.
-use Rattle.std.specs.Prelude.{◌≡◌, ℕ, ◌≤◌, Bool, true, false, cond, ◌||◌, ◌↔◌, List, length, Some, None, Ok, Err, Option, Result, refl}
+use Rattle.std.specs.Prelude.{◌≡◌, ℕ, ◌≤◌, Bool, true, false, ◌||◌, ◌↔◌, List, length, Some, None, Ok, Err, Option, Result, refl, IsTrue, IsFalse, if◌then◌else◌}
 use Rattle.std.proofs.Common.{sym, ap, ◌∙◌}
 use Rattle.std.proofs.lemmas.Bool.{cond-false, false≢true}
 use Rattle.actions.specs.Names.{hides}
@@ -9,40 +9,40 @@ use Rattle.steps.proofs.Answered.{ok_not_err, some_not_none}
 use Rattle.layers.specs.Mask.{stops, mask_transitions, mask_independence}
 
 -- what is answered behind a test that stops was not stopped
-shown_step : (h s : Bool) → cond h false s ≡ true → (h ≡ false) × (s ≡ true)
+shown_step : (h s : Bool) → IsTrue (if h then false else s) → (IsFalse h) × IsTrue s
 shown_step true s e = absurd (false≢true e)
 shown_step false s e = (refl, e)
 
-shown_move : (h : Bool) (r : Result Str ℕ) (b : Str) → cond h (Err 0) r ≡ Ok b → (h ≡ false) × (r ≡ Ok b)
+shown_move : (h : Bool) (r : Result Str ℕ) (b : Str) → (if h then Err 0 else r) ≡ Ok b → (IsFalse h) × (r ≡ Ok b)
 shown_move true r b e = ok_not_err b 0 (sym e)
 shown_move false r b e = (refl, e)
 
-shown_two : (h k : Bool) (o : Option Str) (z : Str) → cond (h || k) None o ≡ Some z → (h ≡ false) × (k ≡ false) × (o ≡ Some z)
+shown_two : (h k : Bool) (o : Option Str) (z : Str) → (if h || k then None else o) ≡ Some z → (IsFalse h) × IsFalse k × (o ≡ Some z)
 shown_two true k o z e = some_not_none z (sym e)
 shown_two false true o z e = some_not_none z (sym e)
 shown_two false false o z e = (refl, refl, e)
 
-step_shown : (h s : Bool) → h ≡ false → s ≡ true → cond h false s ≡ true
+step_shown : (h s : Bool) → IsFalse h → IsTrue s → IsTrue (if h then false else s)
 step_shown h s k e = cond-false h false s k ∙ e
 
-move_shown : (h : Bool) (r : Result Str ℕ) (b : Str) → h ≡ false → r ≡ Ok b → cond h (Err 0) r ≡ Ok b
+move_shown : (h : Bool) (r : Result Str ℕ) (b : Str) → IsFalse h → r ≡ Ok b → (if h then Err 0 else r) ≡ Ok b
 move_shown h r b k e = cond-false h (Err 0) r k ∙ e
 
-two_shown : (h k : Bool) (o : Option Str) (z : Str) → h ≡ false → k ≡ false → o ≡ Some z → cond (h || k) None o ≡ Some z
+two_shown : (h k : Bool) (o : Option Str) (z : Str) → IsFalse h → IsFalse k → o ≡ Some z → (if h || k then None else o) ≡ Some z
 two_shown true k o z p q e = absurd (false≢true (sym p))
 two_shown false true o z p q e = absurd (false≢true (sym q))
 two_shown false false o z p q e = e
 
 -- a string is told to be a step exactly where it is one, behind the same test
-told_shown : (h d s : Bool) (o : Option ℕ) (n : ℕ) → ((o ≡ None) × (d ≡ false)) ↔ ((s ≡ true) × (n ≤ step_limit)) → ((o ≡ None) × (cond h true d ≡ false)) ↔ ((cond h false s ≡ true) × (n ≤ step_limit))
+told_shown : (h d s : Bool) (o : Option ℕ) (n : ℕ) → ((o ≡ None) × IsFalse d) ↔ ((IsTrue s) × (n ≤ step_limit)) → ((o ≡ None) × IsFalse (if h then true else d)) ↔ ((IsTrue (if h then false else s)) × (n ≤ step_limit))
 told_shown true d s o n e = (λ p. absurd (false≢true (sym p.1)), λ p. absurd (false≢true p.0))
 told_shown false d s o n e = e
 
 module _ (names : List ℕ) (t : Transitions) (i : Independence) (l : Laws t i) where
   -- what two steps of the mask leave is what they leave inside, and neither is stopped
   record Left (x y z : Str) : Type 0 where
-    first : stops names t x ≡ false
-    second : stops names t y ≡ false
+    first : IsFalse (stops names t x)
+    second : IsFalse (stops names t y)
     inside : i.left x y ≡ Some z
 
   left_from : (x y z : Str) → (mask_independence names t i).left x y ≡ Some z → Left x y z
@@ -57,16 +57,16 @@ module _ (names : List ℕ) (t : Transitions) (i : Independence) (l : Laws t i) 
   same_stop : (x y z : Str) → i.left x y ≡ Some z → stops names t z ≡ stops names t x
   same_stop x y z e = ap (λ r. hides names r.action) (l.left_label x y z e)
 
-  move_from : (a x b : Str) → (mask_transitions names t).next a x ≡ Ok b → (stops names t x ≡ false) × (t.next a x ≡ Ok b)
+  move_from : (a x b : Str) → (mask_transitions names t).next a x ≡ Ok b → (IsFalse (stops names t x)) × (t.next a x ≡ Ok b)
   move_from a x b e = shown_move (stops names t x) (t.next a x) b e
 
-  move_to : (a x b : Str) → stops names t x ≡ false → t.next a x ≡ Ok b → (mask_transitions names t).next a x ≡ Ok b
+  move_to : (a x b : Str) → IsFalse (stops names t x) → t.next a x ≡ Ok b → (mask_transitions names t).next a x ≡ Ok b
   move_to a x b s e = move_shown (stops names t x) (t.next a x) b s e
 
-  rest_shown : (x y z : Str) → Left x y z → stops names t z ≡ false
+  rest_shown : (x y z : Str) → Left x y z → IsFalse (stops names t z)
   rest_shown x y z h = same_stop x y z h.inside ∙ h.first
 
-  leads : (a x b : Str) → (mask_transitions names t).next a x ≡ Ok b → (t.state a ≡ true) × ((mask_transitions names t).step x ≡ true) × (t.state b ≡ true)
+  leads : (a x b : Str) → (mask_transitions names t).next a x ≡ Ok b → (IsTrue (t.state a)) × IsTrue ((mask_transitions names t).step x) × IsTrue (t.state b)
   leads a x b e =
       let m = move_from a x b e in
       let k = l.leads a x b m.1 in
@@ -81,7 +81,7 @@ module _ (names : List ℕ) (t : Transitions) (i : Independence) (l : Laws t i) 
   irreflexive : (x : Str) → (mask_independence names t i).left x x ≡ None
   irreflexive x = go (stops names t x || stops names t x)
     where
-      go : (h : Bool) → cond h None (i.left x x) ≡ None
+      go : (h : Bool) → (if h then None else i.left x x) ≡ None
       go true = refl
       go false = l.irreflexive x
 
@@ -92,7 +92,7 @@ module _ (names : List ℕ) (t : Transitions) (i : Independence) (l : Laws t i) 
       let d = l.diamond a b c x y x' y' (move_from a x b p).1 (move_from a y c q).1 h.inside g.inside in
       (d.0, move_to b y' d.0 (rest_shown y x y' g) d.1, move_to c x' d.0 (rest_shown x y x' h) d.2)
 
-  left_step : (x y z : Str) → (mask_independence names t i).left x y ≡ Some z → (mask_transitions names t).step z ≡ true
+  left_step : (x y z : Str) → (mask_independence names t i).left x y ≡ Some z → IsTrue ((mask_transitions names t).step z)
   left_step x y z e =
       let h = left_from x y z e in
       step_shown (stops names t z) (t.step z) (rest_shown x y z h) (l.left_step x y z h.inside)

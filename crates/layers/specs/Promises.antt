@@ -1,5 +1,5 @@
 -- What masks and renamings make of a step system, in words of labels and listed names. Assumes nothing.
-use Rattle.std.specs.Prelude.{◌≡◌, ℕ, ◌+◌, true, ◌⊎◌, ◌↔◌, List, [], Some, None, Ok, Err}
+use Rattle.std.specs.Prelude.{◌≡◌, ℕ, ◌+◌, ◌⊎◌, ◌↔◌, List, [], Some, None, Ok, Err, IsTrue}
 use Rattle.std.specs.List.{Contains}
 use Rattle.actions.specs.declared.pairs.Pair.{Pair}
 use Rattle.steps.specs.declared.fault.MaskFault.TheVariants.{Masked, Inner}
@@ -20,7 +20,7 @@ ShowsListed ns a = (n : ℕ) × Contains ns n × Shows a n
 
 -- A mask takes away the steps that show a listed name, and no others: they are told as masked, lead nowhere and are independent of none.
 pub record MaskedSteps (ns : List ℕ) (t : Transitions) (i : Independence) : Type 0 where
-  pub steps : (x : Str) → ((mask_transitions ns t).step x ≡ true) ↔ ((t.step x ≡ true) × (ShowsListed ns (t.label x).action → ⊥))
+  pub steps : (x : Str) → (IsTrue ((mask_transitions ns t).step x)) ↔ ((IsTrue (t.step x)) × (ShowsListed ns (t.label x).action → ⊥))
   pub silent : (x : Str) → (t.label x).action ≡ 0 → (mask_transitions ns t).step x ≡ t.step x
   pub moves : (a x b : Str) → ((mask_transitions ns t).next a x ≡ Ok b) ↔ ((t.next a x ≡ Ok b) × (ShowsListed ns (t.label x).action → ⊥))
   pub rests : (x y z : Str) → ((mask_independence ns t i).left x y ≡ Some z) ↔ ((i.left x y ≡ Some z) × (ShowsListed ns (t.label x).action → ⊥) × (ShowsListed ns (t.label y).action → ⊥))
@@ -41,8 +41,8 @@ pub record RenamedLabels (ps : List Pair) (t : Transitions) : Type 0 where
 
 -- A mask over a renaming goes by the name that a step has got: one that had a listed name and got another stays.
 pub record MaskedRenamed (ns : List ℕ) (ps : List Pair) (t : Transitions) : Type 0 where
-  pub paired : (x : Str) (p : Pair) → Contains ps p → Shows (t.label x).action p.from → ((mask_transitions ns (renaming_transitions ps t)).step x ≡ true) ↔ ((t.step x ≡ true) × (Contains ns p.to → ⊥))
-  pub others : (x : Str) → ((p : Pair) → Contains ps p → Shows (t.label x).action p.from → ⊥) → ((mask_transitions ns (renaming_transitions ps t)).step x ≡ true) ↔ ((t.step x ≡ true) × (ShowsListed ns (t.label x).action → ⊥))
+  pub paired : (x : Str) (p : Pair) → Contains ps p → Shows (t.label x).action p.from → (IsTrue ((mask_transitions ns (renaming_transitions ps t)).step x)) ↔ ((IsTrue (t.step x)) × (Contains ns p.to → ⊥))
+  pub others : (x : Str) → ((p : Pair) → Contains ps p → Shows (t.label x).action p.from → ⊥) → (IsTrue ((mask_transitions ns (renaming_transitions ps t)).step x)) ↔ ((IsTrue (t.step x)) × (ShowsListed ns (t.label x).action → ⊥))
 
 -- With nothing listed a layer changes nothing.
 pub record NothingListed (t : Transitions) (i : Independence) : Type 0 where

@@ -1,5 +1,5 @@
 -- Which events a net takes, and what is wrong with any other. Assumes nothing.
-use Rattle.std.specs.Prelude.{ℕ, ◌^◌, Bool, true, cond, not, ◌&&◌, List, [], ◌∷◌, ◌++◌, length, is_some, Some, None, Ok, Err, Option, Result, ◌==◌, bit_and, nat_lt}
+use Rattle.std.specs.Prelude.{ℕ, ◌^◌, Bool, true, not, ◌&&◌, List, [], ◌∷◌, ◌++◌, length, is_some, Some, None, Ok, Err, Option, Result, ◌==◌, bit_and, nat_lt, if◌then◌else◌}
 use Rattle.actions.specs.Action.{is_action}
 use Rattle.nets.specs.declared.event.Event.{Event}
 use Rattle.nets.specs.declared.event.EventFault.{EventFault}
@@ -15,7 +15,7 @@ disjoint e = bit_and e.before e.after == 0
 
 abbrev pub event_fault : Event → Option EventFault
 event_fault e =
-    cond (is_action e.action) (cond (filled e) (cond (disjoint e) None (Some SharedCondition)) (Some EmptySet)) (Some NoAction)
+    if is_action e.action then (if filled e then (if disjoint e then None else Some SharedCondition) else Some EmptySet) else Some NoAction
 
 -- no condition beyond the sixty-fourth
 abbrev pub narrow : Event → Bool
@@ -35,7 +35,7 @@ event_limit = 48
 
 -- why a net of these events does not take one more, if so
 abbrev pub add_fault : List Event → Event → Option EventFault
-add_fault es e = cond (nat_lt (length es) event_limit) (event_fault e) (Some Full)
+add_fault es e = if nat_lt (length es) event_limit then event_fault e else Some Full
 
 -- what adding an event answers, and the events afterwards
 abbrev pub add_answer : Option EventFault → Result (Unit {0}) EventFault

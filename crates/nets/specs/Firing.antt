@@ -1,5 +1,5 @@
 -- The firing rule, and which events are independent: each as a relation, and as it is computed on the bits of markings. Assumes nothing.
-use Rattle.std.specs.Prelude.{ℕ, ◌^◌, ◌<◌, Bool, cond, ◌&&◌, ◌⊎◌, ◌↔◌, Some, None, Option, ◌==◌, bit_and, bit_or, bit_xor}
+use Rattle.std.specs.Prelude.{ℕ, ◌^◌, ◌<◌, Bool, ◌&&◌, ◌⊎◌, ◌↔◌, Some, None, Option, ◌==◌, bit_and, bit_or, bit_xor, if◌then◌else◌}
 use Rattle.nets.specs.declared.event.Event.{Event}
 use Rattle.nets.specs.Marking.{Holds}
 
@@ -35,7 +35,7 @@ switched e m = bit_xor m (touched e)
 
 -- the marking that follows by the event, if it is possible
 abbrev pub fired : Event → ℕ → Option ℕ
-fired e m = cond (possible e m) (Some (switched e m)) None
+fired e m = if possible e m then Some (switched e m) else None
 
 -- no common bit
 abbrev pub apart : Event → Event → Bool

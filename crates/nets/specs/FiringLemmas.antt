@@ -1,5 +1,5 @@
 -- The firing rule and independence: what is computed on bits is what the relations say.
-use Rattle.std.specs.Prelude.{◌≡◌, ℕ, ◌+◌, ◌%◌, ◌^◌, ◌<◌, max, Bool, true, false, ◌⊎◌, ◌↔◌, Some, None, Option, ◌==◌, ◌≢◌}
+use Rattle.std.specs.Prelude.{◌≡◌, ℕ, ◌+◌, ◌%◌, ◌^◌, ◌<◌, max, Bool, ◌⊎◌, ◌↔◌, Some, None, Option, ◌==◌, ◌≢◌, IsTrue, IsFalse}
 use Rattle.std.proofs.Common.{inl, inr, ⊎_elim, sym, ap, ◌∙◌, subst, arith}
 use Rattle.std.specs.Int.Bits.{bit_and}
 use Rattle.std.proofs.lemmas.Nat.{and_le_r, or_lt, xor_lt}
@@ -40,15 +40,15 @@ same_bit : {P : Type 0} (a b : ℕ) → a < 2 → b < 2 → (a ≡ 1) ↔ P → 
 same_bit a b a2 b2 h k =
     ⊎_elim (λ low. let z : b ≡ 1 → ⊥ = λ o. omega (arith, h.1 (k.0 o)) in grind arith) (λ high. omega (arith, k.1 (h.0 (omega arith)))) (cases_lt a 1)
 
-pub fired_possible : (e : Event) (m : ℕ) → possible e m ≡ true → fired e m ≡ Some (switched e m)
+pub fired_possible : (e : Event) (m : ℕ) → IsTrue (possible e m) → fired e m ≡ Some (switched e m)
 fired_possible e m p = cond-true (possible e m) (Some (switched e m)) None p
 
-pub fired_impossible : (e : Event) (m : ℕ) → possible e m ≡ false → fired e m ≡ None
+pub fired_impossible : (e : Event) (m : ℕ) → IsFalse (possible e m) → fired e m ≡ None
 fired_impossible e m p = cond-false (possible e m) (Some (switched e m)) None p
 
 module _ (e : Event) (m : ℕ) (marked : m < 2 ^ 64) (low : e.before < 2 ^ 64) (high : e.after < 2 ^ 64) where
   -- what is computed follows the rule
-  fires_switched : possible e m ≡ true → Fires e m (switched e m)
+  fires_switched : IsTrue (possible e m) → Fires e m (switched e m)
   fires_switched p =
       let parts = and_parts (bit_and m e.before == e.before) (bit_and m e.after == 0) p in
       let ready = part_holds m e.before (eqb-true (bit_and m e.before) e.before parts.0) in
@@ -61,7 +61,7 @@ module _ (e : Event) (m : ℕ) (marked : m < 2 ^ 64) (low : e.before < 2 ^ 64) (
       }
 
   -- and nothing else does
-  possible_from : {m' : ℕ} → Fires e m m' → possible e m ≡ true
+  possible_from : {m' : ℕ} → Fires e m m' → IsTrue (possible e m)
   possible_from f =
       and_from (bit_and m e.before == e.before) (bit_and m e.after == 0)
       (eq-eqb (bit_and m e.before) e.before (part_from m e.before low f.ready)) (eq-eqb (bit_and m e.after) 0 (none_from m e.after high f.free))
@@ -90,11 +90,11 @@ at_touched e c = ⊎_elim (λ h. omega (arith, bit_of_or e.before e.after c)) (�
 touched_at : (e : Event) (c : ℕ) → Holds (touched e) c → At e c
 touched_at e c h = ⊎_elim (λ z. inr (omega (arith, bit_of_or e.before e.after c))) inl (bit_cases e.before c)
 
-apart_exactly : (e f : Event) → f.before < 2 ^ 64 → f.after < 2 ^ 64 → (apart e f ≡ true) ↔ Apart e f
+apart_exactly : (e f : Event) → f.before < 2 ^ 64 → f.after < 2 ^ 64 → (IsTrue (apart e f)) ↔ Apart e f
 apart_exactly e f low high = (
   λ h c l p q. none_holds (touched e) (touched f) (eqb-true (bit_and (touched e) (touched f)) 0 h) c (at_touched f c q) (at_touched e c p),
   λ a. eq-eqb (bit_and (touched e) (touched f)) 0 (none_from (touched e) (touched f) (or_lt 64 f.before f.after low high) (λ c l p q. a c l (touched_at e c q) (touched_at f c p))),
 )
 
-pub apart_rule : (e f : Event) → f.before < 2 ^ 64 → f.after < 2 ^ 64 → {r : Bool} → r ≡ apart e f → (r ≡ true) ↔ Apart e f
+pub apart_rule : (e f : Event) → f.before < 2 ^ 64 → f.after < 2 ^ 64 → {r : Bool} → r ≡ apart e f → (IsTrue r) ↔ Apart e f
 apart_rule e f low high v = rw v (apart_exactly e f low high)

@@ -1,5 +1,5 @@
 -- The laws of step systems hold of every net whose events are sound.
-use Rattle.std.specs.Prelude.{◌≡◌, ℕ, ◌≤◌, true, ◌↔◌, List, length, is_ok, Some, None, Ok, Err, Result, bit_xor, refl}
+use Rattle.std.specs.Prelude.{◌≡◌, ℕ, ◌≤◌, true, ◌↔◌, List, length, is_ok, Some, None, Ok, Err, Result, bit_xor, refl, IsTrue}
 use Rattle.std.proofs.Common.{sym, ap, ap₂, subst, ◌∙◌, arith}
 use Rattle.std.specs.Int.Bits.{xor_assoc}
 use Rattle.std.proofs.lemmas.Nat.{xor_comm, xor_lt}
@@ -17,18 +17,18 @@ use Rattle.nets.specs.Moves.{Sound, read_named, touched_narrow, never_apart, apa
 use Rattle.nets.specs.Cases.{none_some}
 
 -- a string is read exactly if there is no place where it is not
-is_read : {X : Type 0} (p : Result X ℕ) → is_ok p ≡ true → (x : X) × (p ≡ Ok x)
+is_read : {X : Type 0} (p : Result X ℕ) → IsTrue (is_ok p) → (x : X) × (p ≡ Ok x)
 is_read (Ok x) h = (x, refl)
 is_read (Err k) h = absurd (false≢true h)
 
-read_ok : {X : Type 0} (p : Result X ℕ) {x : X} → p ≡ Ok x → is_ok p ≡ true
+read_ok : {X : Type 0} (p : Result X ℕ) {x : X} → p ≡ Ok x → IsTrue (is_ok p)
 read_ok p h = ap is_ok h
 
-nowhere_bad : {X : Type 0} (p : Result X ℕ) → (result_err p ≡ None) ↔ (is_ok p ≡ true)
+nowhere_bad : {X : Type 0} (p : Result X ℕ) → (result_err p ≡ None) ↔ (IsTrue (is_ok p))
 nowhere_bad (Ok x) = (λ _. refl, λ _. refl)
 nowhere_bad (Err k) = (λ h. absurd (none_some (sym h)), λ h. absurd (false≢true h))
 
-stays : (e f : Event) (x : Str) {p q : Result Event ℕ} → p ≡ Ok e → q ≡ Ok f → apart e f ≡ true → remains x p q ≡ Some x
+stays : (e f : Event) (x : Str) {p q : Result Event ℕ} → p ≡ Ok e → q ≡ Ok f → IsTrue (apart e f) → remains x p q ≡ Some x
 stays e f x p q free = ap₂ (remains x) p q ∙ cond-true (apart e f) (Some x) None free
 
 never_left : (x : Str) (p : Result Event ℕ) → ((e : Event) → p ≡ Ok e → Sound e) → remains x p p ≡ None
@@ -38,7 +38,7 @@ never_left x (Err k) s = refl
 exchanged : (m s t : ℕ) → bit_xor (bit_xor m t) s ≡ bit_xor (bit_xor m s) t
 exchanged m s t = xor_assoc m t s ∙ ap (bit_xor m) (xor_comm t s) ∙ sym (xor_assoc m s t)
 
-module _ (es : List Event) (good : all_sound es ≡ true) where
+module _ (es : List Event) (good : IsTrue (all_sound es)) where
   sound_of : (x : Str) {e : Event} → read_event es x ≡ Ok e → Sound e
   sound_of x {e} r = (read_named es good x e r).sound
 
@@ -48,10 +48,10 @@ module _ (es : List Event) (good : all_sound es ≡ true) where
   moved : (a x b : Str) → (net_transitions es).next a x ≡ Ok b → Moved (read_event es x) (read_marking a)
   moved a x b h = moved_from (read_event es x) (read_marking a) b h
 
-  state_short : (s : Str) → is_ok (read_marking s) ≡ true → length s ≤ 256
+  state_short : (s : Str) → IsTrue (is_ok (read_marking s)) → length s ≤ 256
   state_short s h = let r = is_read (read_marking s) h in omega (arith, (read_marked s r.0 r.1).eight)
 
-  step_short : (x : Str) → is_ok (read_event es x) ≡ true → length x ≤ 64
+  step_short : (x : Str) → IsTrue (is_ok (read_event es x)) → length x ≤ 64
   step_short x h = let r = is_read (read_event es x) h in omega (arith, (read_named es good x r.0 r.1).one)
 
   -- what a move has written is read again
@@ -60,7 +60,7 @@ module _ (es : List Event) (good : all_sound es ≡ true) where
       subst (λ (w : Str). read_marking w ≡ Ok (switched e m)) t.end
       (read_bytes (switched e m) (xor_lt 64 m (touched e) (read_marked a m r).narrow (touched_narrow e s)))
 
-  leads : (a x b : Str) → (net_transitions es).next a x ≡ Ok b → (is_ok (read_marking a) ≡ true) × (is_ok (read_event es x) ≡ true) × (is_ok (read_marking b) ≡ true)
+  leads : (a x b : Str) → (net_transitions es).next a x ≡ Ok b → (IsTrue (is_ok (read_marking a))) × IsTrue (is_ok (read_event es x)) × IsTrue (is_ok (read_marking b))
   leads a x b h =
       let v = moved a x b h in (
         ap is_ok v.from,
@@ -69,7 +69,7 @@ module _ (es : List Event) (good : all_sound es ≡ true) where
       )
 
   -- after e, the independent event f is possible still
-  second_move : (e f : Event) (m : ℕ) (a b y : Str) → Sound e → Sound f → apart e f ≡ true → read_event es y ≡ Ok f → read_marking a ≡ Ok m → Steps e m b → possible f m ≡ true → (net_transitions es).next b y ≡ Ok (bytes_of (switched f (switched e m)))
+  second_move : (e f : Event) (m : ℕ) (a b y : Str) → Sound e → Sound f → IsTrue (apart e f) → read_event es y ≡ Ok f → read_marking a ≡ Ok m → Steps e m b → IsTrue (possible f m) → (net_transitions es).next b y ≡ Ok (bytes_of (switched f (switched e m)))
   second_move e f m a b y se sf free by from t ready =
       moves f (switched e m) by (read_end e m a b se from t) (still_possible e f m sf free ∙ ready)
 
@@ -131,7 +131,7 @@ module _ (es : List Event) (good : all_sound es ≡ true) where
         symmetric = λ x y z h. let l = left_of x y z h in (y, stays l.other l.event y l.second l.first (apart_comm l.other l.event ∙ l.free));
         irreflexive = λ x. never_left x (read_event es x) (λ e. sound_of x);
         diamond = diamond;
-        left_step = λ x y z h. let l = left_of x y z h in subst (λ (w : Str). is_ok (read_event es w) ≡ true) l.same (ap is_ok l.first);
+        left_step = λ x y z h. let l = left_of x y z h in subst (λ (w : Str). IsTrue (is_ok (read_event es w))) l.same (ap is_ok l.first);
         left_label = λ x y z h. ap (λ (w : Str). label_of (read_event es w)) (sym (left_of x y z h).same);
         left_length = λ x y z h. omega (arith, ap length (left_of x y z h).same);
         origin = origin;

@@ -1,5 +1,5 @@
 -- Events read from a sound net, and firing in the presence of an independent event.
-use Rattle.std.specs.Prelude.{◌≡◌, ℕ, zero, suc, ◌+◌, ◌%◌, ◌^◌, ◌<◌, ◌≤◌, min, Bool, true, false, cond, not, ◌&&◌, List, [], ◌∷◌, length, is_some, Some, None, Ok, Err, Option, Result, ◌==◌, nat_eq, nat_lt, refl}
+use Rattle.std.specs.Prelude.{◌≡◌, ℕ, zero, suc, ◌+◌, ◌%◌, ◌^◌, ◌<◌, ◌≤◌, min, Bool, true, false, not, ◌&&◌, List, [], ◌∷◌, length, is_some, Some, None, Ok, Err, Option, Result, ◌==◌, nat_eq, nat_lt, refl, IsTrue, IsFalse, if◌then◌else◌}
 use Rattle.std.proofs.Common.{⊎_elim, sym, ap, ap₂, subst, ◌∙◌, arith}
 use Rattle.std.specs.Int.Bits.{bit_and, bit_xor, and_self, or_add_and}
 use Rattle.std.proofs.lemmas.Nat.{and_comm, and_le_r, or_lt}
@@ -23,12 +23,12 @@ pub record Sound (e : Event) : Type 0 where
   pub high : e.after < 2 ^ 64
   pub some : 0 < e.before
 
-no_fault_filled : (a b c : Bool) (f g h : EventFault) → not (is_some (cond a (cond b (cond c None (Some f)) (Some g)) (Some h))) ≡ true → b ≡ true
+no_fault_filled : (a b c : Bool) (f g h : EventFault) → IsTrue (not (is_some (if a then (if b then (if c then None else Some f) else Some g) else Some h))) → IsTrue b
 no_fault_filled true true c f g h e = refl
 no_fault_filled true false c f g h e = e
 no_fault_filled false b c f g h e = absurd (false≢true e)
 
-sound_from : (e : Event) → sound_event e ≡ true → Sound e
+sound_from : (e : Event) → IsTrue (sound_event e) → Sound e
 sound_from e h =
     let parts = and_parts (narrow e) (not (is_some (event_fault e))) h in
     let widths = and_parts (nat_lt e.before (2 ^ 64)) (nat_lt e.after (2 ^ 64)) parts.0 in
@@ -37,7 +37,7 @@ sound_from e h =
     let apart0 : e.before ≡ 0 → ⊥ = eqb-false e.before 0 (not-true (e.before == 0) before) in
     record { low = ltb-true e.before (2 ^ 64) widths.0; high = ltb-true e.after (2 ^ 64) widths.1; some = omega arith }
 
-nth_sound : (es : List Event) (k : ℕ) (e : Event) → all_sound es ≡ true → slice_get es k ≡ Some e → Sound e
+nth_sound : (es : List Event) (k : ℕ) (e : Event) → IsTrue (all_sound es) → slice_get es k ≡ Some e → Sound e
 nth_sound [] k e h n = absurd (none_some n)
 nth_sound (f ∷ es) zero e h n = subst Sound (some_same n) (sound_from f (and_parts (sound_event f) (all_sound es) h).0)
 nth_sound (f ∷ es) (suc k) e h n = nth_sound es k e (and_parts (sound_event f) (all_sound es) h).1 n
@@ -47,7 +47,7 @@ pub record Named (x : Str) (e : Event) : Type 0 where
   pub one : length x ≡ 1
   pub sound : Sound e
 
-pub read_named : (es : List Event) → all_sound es ≡ true → (x : Str) (e : Event) → read_event es x ≡ Ok e → Named x e
+pub read_named : (es : List Event) → IsTrue (all_sound es) → (x : Str) (e : Event) → read_event es x ≡ Ok e → Named x e
 read_named es h [] e r = absurd (err_ok r)
 read_named es h (k ∷ x) e r = found_named (slice_get es k) x r (nth_sound es k e h)
   where
@@ -60,7 +60,7 @@ pub touched_narrow : (e : Event) → Sound e → touched e < 2 ^ 64
 touched_narrow e s = or_lt 64 e.before e.after s.low s.high
 
 -- an event is at some condition, so it is not independent of itself
-pub never_apart : (e : Event) → Sound e → apart e e ≡ false
+pub never_apart : (e : Event) → Sound e → IsFalse (apart e e)
 never_apart e s =
     ne_eqb (bit_and (touched e) (touched e)) 0 (λ z. omega (arith, and_self (touched e), or_add_and e.before e.after, and_le_r e.before e.after, s.some))
 
@@ -79,7 +79,7 @@ untouched m t b u low part none =
     ∙ sym (bit_of_and m b c))
 
 -- an event is possible after an independent one exactly if it was before
-pub still_possible : (e f : Event) (m : ℕ) → Sound f → apart e f ≡ true → possible f (switched e m) ≡ possible f m
+pub still_possible : (e f : Event) (m : ℕ) → Sound f → IsTrue (apart e f) → possible f (switched e m) ≡ possible f m
 still_possible e f m s a =
     let none = eqb-true (bit_and (touched e) (touched f)) 0 a in
     ap₂ (λ (b n : ℕ). (b == f.before) && n == 0)
@@ -88,7 +88,7 @@ still_possible e f m s a =
 
 -- an event takes a marking to a state
 pub record Steps (e : Event) (m : ℕ) (b : Str) : Type 0 where
-  pub ready : possible e m ≡ true
+  pub ready : IsTrue (possible e m)
   pub end : bytes_of (switched e m) ≡ b
 
 steps : (e : Event) (m : ℕ) (b : Str) → after_firing (fired e m) ≡ Ok b → Steps e m b
@@ -113,7 +113,7 @@ moved_from (Ok e) (Ok m) b h = record { event = e; marking = m; by = refl; from 
 moved_from (Ok e) (Err q) b h = absurd (err_ok h)
 moved_from (Err q) r b h = absurd (err_ok h)
 
-pub moves : (e : Event) (m : ℕ) {p : Result Event ℕ} {r : Result ℕ ℕ} → p ≡ Ok e → r ≡ Ok m → possible e m ≡ true → follow p r ≡ Ok (bytes_of (switched e m))
+pub moves : (e : Event) (m : ℕ) {p : Result Event ℕ} {r : Result ℕ ℕ} → p ≡ Ok e → r ≡ Ok m → IsTrue (possible e m) → follow p r ≡ Ok (bytes_of (switched e m))
 moves e m p r h = ap₂ follow p r ∙ ap after_firing (fired_possible e m h)
 
 -- what is left of an event, where something is: itself, and the two events are independent
@@ -122,7 +122,7 @@ pub record Left (p q : Result Event ℕ) (x z : Str) : Type 0 where
   pub other : Event
   pub first : p ≡ Ok event
   pub second : q ≡ Ok other
-  pub free : apart event other ≡ true
+  pub free : IsTrue (apart event other)
   pub same : x ≡ z
 
 pub left_from : (p q : Result Event ℕ) (x z : Str) → remains x p q ≡ Some z → Left p q x z
@@ -135,7 +135,7 @@ left_from (Ok e) (Err k) x z h = absurd (none_some h)
 left_from (Err k) q x z h = absurd (none_some h)
 
 pub remains_comm : (x : Str) (p q : Result Event ℕ) → remains x p q ≡ remains x q p
-remains_comm x (Ok e) (Ok f) = ap (λ (b : Bool). cond b (Some x) None) (apart_comm e f)
+remains_comm x (Ok e) (Ok f) = ap (λ (b : Bool). (if b then Some x else None)) (apart_comm e f)
 remains_comm x (Ok e) (Err k) = refl
 remains_comm x (Err k) (Ok f) = refl
 remains_comm x (Err k) (Err l) = refl

@@ -1,5 +1,5 @@
 -- A net as a step system: markings are its states, and the numbers of its events its steps. Assumes nothing.
-use Rattle.std.specs.Prelude.{ℕ, false, cond, List, [], ◌∷◌, is_ok, Some, None, Ok, Err, Option, Result}
+use Rattle.std.specs.Prelude.{ℕ, false, List, [], ◌∷◌, is_ok, Some, None, Ok, Err, Option, Result, if◌then◌else◌}
 use Rattle.std.specs.List.{slice_get}
 use Rattle.std.specs.Result.{result_err}
 use Rattle.steps.specs.declared.fault.MaskFault.{MaskFault}
@@ -39,7 +39,7 @@ follow (Err p) r = Err 0
 
 -- an event stays itself after an independent one
 abbrev pub remains : Str → Result Event ℕ → Result Event ℕ → Option Str
-remains x (Ok e) (Ok f) = cond (apart e f) (Some x) None
+remains x (Ok e) (Ok f) = if apart e f then Some x else None
 remains x (Ok e) (Err p) = None
 remains x (Err p) r = None
 

@@ -1,5 +1,5 @@
 // Events of a net: what must hold before one, and what holds after it.
-ghost use Rattle.std.specs.Prelude.{◌≡◌, ℕ, true, ◌↔◌, Some};
+ghost use Rattle.std.specs.Prelude.{◌≡◌, ℕ, ◌↔◌, Some, IsTrue};
 ghost use Rattle.nets.specs.Events.{event_fault, add_answer};
 ghost use Rattle.nets.specs.Firing.{touched, fired, apart, Fires, Apart};
 
@@ -65,7 +65,7 @@ impl Event {
     // Whether no condition is at both events.
     pub fn apart_from(self, other: Event) -> bool
         ensures value { result ≡ apart self other }
-        ensures rule { (result ≡ true) ↔ Apart self other }
+        ensures rule { (IsTrue result) ↔ Apart self other }
     {
         self.conditions() & other.conditions() == 0
     }

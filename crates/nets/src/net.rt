@@ -1,5 +1,5 @@
 // Nets, each of which has only events with an action and with two filled, disjoint sets of conditions.
-ghost use Rattle.std.specs.Prelude.{◌≡◌, true};
+ghost use Rattle.std.specs.Prelude.{◌≡◌, IsTrue};
 ghost use Rattle.nets.specs.Events.{all_sound};
 
 use crate::event::Event;
@@ -14,5 +14,5 @@ pub const EVENT_LIMIT: usize = 48;
 #[derive(Clone, Copy)]
 pub struct Net {
     events: FixedList<Event, EVENT_LIMIT>,
-    ghost sound: { all_sound events ≡ true },
+    ghost sound: { IsTrue (all_sound events) },
 }

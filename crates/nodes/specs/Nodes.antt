@@ -1,5 +1,5 @@
 -- The node that a string is read as, with its parts as strings. Assumes nothing.
-use Rattle.std.specs.Prelude.{◌≡◌, ℕ, ◌+◌, cond, nat_eq, length, Some, None, Ok, Err, Option, Result}
+use Rattle.std.specs.Prelude.{◌≡◌, ℕ, ◌+◌, nat_eq, length, Some, None, Ok, Err, Option, Result, if◌then◌else◌}
 use Rattle.steps.specs.Meaning.{Str}
 use Rattle.ccs.specs.Syntax.{Term, Proof}
 use Rattle.ccs.specs.Syntax.Term.{nil, prefix, par, sum, restrict, call}
@@ -121,12 +121,12 @@ under_of n (Right s) = None
 under_of n (Both s r) = None
 under_of n (ChooseLeft s) = None
 under_of n (ChooseRight s) = None
-under_of n (Under m s) = cond (nat_eq n m) (Some s) None
+under_of n (Under m s) = if nat_eq n m then Some s else None
 
 -- what a term does next: the rest behind an action, two sides, two branches, a term under a restriction, the body of a definition
 abbrev pub rest_of : ℕ → NodeOfTerm → Option Str
 rest_of a Nil = None
-rest_of a (Prefix b s) = cond (nat_eq b a) (Some s) None
+rest_of a (Prefix b s) = if nat_eq b a then Some s else None
 rest_of a (Par s r) = None
 rest_of a (Sum s r) = None
 rest_of a (Restrict m s) = None
@@ -153,7 +153,7 @@ restricted_of n Nil = None
 restricted_of n (Prefix a s) = None
 restricted_of n (Par s r) = None
 restricted_of n (Sum s r) = None
-restricted_of n (Restrict m s) = cond (nat_eq m n) (Some s) None
+restricted_of n (Restrict m s) = if nat_eq m n then Some s else None
 restricted_of n (Call d) = None
 
 abbrev pub called_of : NodeOfTerm → Option ℕ

@@ -1,5 +1,5 @@
 -- The node that a first byte makes of the bytes behind it, whatever the parts are. Assumes nothing.
-use Rattle.std.specs.Prelude.{ℕ, cond, [], ◌∷◌, Some, None, Option, nat_eq}
+use Rattle.std.specs.Prelude.{ℕ, [], ◌∷◌, Some, None, Option, nat_eq, if◌then◌else◌}
 use Rattle.steps.specs.Meaning.{Str}
 use Rattle.ccs.specs.Reading.{term_byte, proof_byte}
 use Rattle.nodes.specs.Whole.{whole, start, split_answer}
@@ -24,19 +24,19 @@ module _ {A : Type 0} where
 
 abbrev pub proof_shape : ℕ → Str → Option NodeOfProof
 proof_shape kind s =
-    cond (nat_eq kind 0x10) (own_only Act s)
-    (cond (nat_eq kind 0x11) (Some (Left s))
-    (cond (nat_eq kind 0x12) (Some (Right s))
-    (cond (nat_eq kind 0x13) (two_parts Both (split_answer (whole (fits_of proof_byte) start s) s))
-    (cond (nat_eq kind 0x14) (Some (ChooseLeft s))
-    (cond (nat_eq kind 0x15) (Some (ChooseRight s))
-    (cond (nat_eq kind 0x16) (own_and_part Under s) None))))))
+    if nat_eq kind 0x10 then own_only Act s
+    else if nat_eq kind 0x11 then Some (Left s)
+    else if nat_eq kind 0x12 then Some (Right s)
+    else if nat_eq kind 0x13 then two_parts Both (split_answer (whole (fits_of proof_byte) start s) s)
+    else if nat_eq kind 0x14 then Some (ChooseLeft s)
+    else if nat_eq kind 0x15 then Some (ChooseRight s)
+    else if nat_eq kind 0x16 then own_and_part Under s else None
 
 abbrev pub term_shape : ℕ → ℕ → Str → Option NodeOfTerm
 term_shape n kind s =
-    cond (nat_eq kind 0x00) (Some Nil)
-    (cond (nat_eq kind 0x01) (own_and_part Prefix s)
-    (cond (nat_eq kind 0x02) (two_parts Par (split_answer (whole (fits_of (term_byte n)) start s) s))
-    (cond (nat_eq kind 0x03) (two_parts Sum (split_answer (whole (fits_of (term_byte n)) start s) s))
-    (cond (nat_eq kind 0x04) (own_and_part Restrict s)
-    (cond (nat_eq kind 0x05) (own_only Call s) None)))))
+    if nat_eq kind 0x00 then Some Nil
+    else if nat_eq kind 0x01 then own_and_part Prefix s
+    else if nat_eq kind 0x02 then two_parts Par (split_answer (whole (fits_of (term_byte n)) start s) s)
+    else if nat_eq kind 0x03 then two_parts Sum (split_answer (whole (fits_of (term_byte n)) start s) s)
+    else if nat_eq kind 0x04 then own_and_part Restrict s
+    else if nat_eq kind 0x05 then own_only Call s else None

@@ -1,5 +1,5 @@
 -- How far a string is one term or proof, by what is due behind each byte. Assumes nothing.
-use Rattle.std.specs.Prelude.{ℕ, ◌+◌, ◌≤◌, Bool, false, cond, [], ◌∷◌, Some, None, Ok, Err, Option, Result, ◌==◌, nat_lt, nat_le, length, take, drop}
+use Rattle.std.specs.Prelude.{ℕ, ◌+◌, ◌≤◌, Bool, false, [], ◌∷◌, Some, None, Ok, Err, Option, Result, ◌==◌, nat_lt, nat_le, length, take, drop, if◌then◌else◌}
 use Rattle.steps.specs.Meaning.{Str}
 use Rattle.nodes.specs.declared.scan.Due.TheVariants.{Node, Action, Name, Number}
 use Rattle.nodes.specs.declared.scan.Wanted.{Wanted}
@@ -25,14 +25,14 @@ one_on (Err p) = Err (1 + p)
 -- the length of the shortest beginning behind which nothing is due; else the place of the first byte that does not fit
 unfoldable pub whole : (Wanted → ℕ → Option Wanted) → Wanted → Str → Result ℕ ℕ
 whole fits w [] = Err 0
-whole fits w (b ∷ s) = elim (fits w b) [ None ↦ Err 0 | Some v ↦ cond (done v) (Ok 1) (one_on (whole fits v s)) ]
+whole fits w (b ∷ s) = elim (fits w b) [ None ↦ Err 0 | Some v ↦ if done v then Ok 1 else one_on (whole fits v s) ]
 
 -- the place of the first byte that fits none: a string goes on behind its first term or proof, or ends before
 abbrev pub whole_fault : Result ℕ ℕ → ℕ → Option ℕ
-whole_fault (Ok n) l = cond (nat_lt n l) (Some n) None
+whole_fault (Ok n) l = if nat_lt n l then Some n else None
 whole_fault (Err p) l = Some p
 
 -- the first term or proof, and what stands behind it
 abbrev pub split_answer : Result ℕ ℕ → Str → Option (Str × Str)
-split_answer (Ok n) s = cond (nat_le n (length s)) (Some (take n s, drop n s)) None
+split_answer (Ok n) s = if nat_le n (length s) then Some (take n s, drop n s) else None
 split_answer (Err p) s = None

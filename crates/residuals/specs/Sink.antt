@@ -1,5 +1,5 @@
 -- What a sink holds when bytes have been written to it. Assumes nothing.
-use Rattle.std.specs.Prelude.{ℕ, min, ◌+◌, cond, [], ◌∷◌, ◌++◌, length, take, Some, None, Option, Ok, Err, Result, nat_le}
+use Rattle.std.specs.Prelude.{ℕ, min, ◌+◌, [], ◌∷◌, ◌++◌, length, take, Some, None, Option, Ok, Err, Result, nat_le, if◌then◌else◌}
 use Rattle.steps.specs.Meaning.{Str}
 use Rattle.residuals.specs.declared.sink.Sink.{Sink}
 
@@ -22,4 +22,4 @@ onto s None = None
 
 -- all, where it is within a limit and a buffer of n bytes; else the length that is needed
 abbrev pub put_answer : Sink → ℕ → ℕ → Result Str ℕ
-put_answer s limit n = cond (nat_le s.len limit) (cond (nat_le (length s.kept) n) (Ok s.kept) (Err s.len)) (Err s.len)
+put_answer s limit n = if nat_le s.len limit then (if nat_le (length s.kept) n then Ok s.kept else Err s.len) else Err s.len

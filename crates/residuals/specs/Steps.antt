@@ -1,5 +1,5 @@
 -- What is answered of strings that are to be proofs. Assumes nothing.
-use Rattle.std.specs.Prelude.{ℕ, ◌≤◌, Bool, true, false, cond, nat_eq, [], ◌∷◌, Some, None, Option}
+use Rattle.std.specs.Prelude.{ℕ, ◌≤◌, Bool, true, false, nat_eq, [], ◌∷◌, Some, None, Option, if◌then◌else◌}
 use Rattle.steps.specs.Meaning.{Str}
 use Rattle.ccs.specs.Reading.{read_proof}
 use Rattle.ccs.specs.Residual.{residual, origin}
@@ -32,12 +32,12 @@ unfoldable pub shown_behind : Bool → Str → ℕ
 shown_behind named [] = 0
 shown_behind true (n ∷ s) = shown_behind false s
 shown_behind false (b ∷ s) =
-    cond (nat_eq b 0x10) (first_byte s)
-    (cond (nat_eq b 0x11) (shown_behind false s)
-    (cond (nat_eq b 0x12) (shown_behind false s)
-    (cond (nat_eq b 0x14) (shown_behind false s)
-    (cond (nat_eq b 0x15) (shown_behind false s)
-    (cond (nat_eq b 0x16) (shown_behind true s) 0)))))
+    if nat_eq b 0x10 then first_byte s
+    else if nat_eq b 0x11 then shown_behind false s
+    else if nat_eq b 0x12 then shown_behind false s
+    else if nat_eq b 0x14 then shown_behind false s
+    else if nat_eq b 0x15 then shown_behind false s
+    else if nat_eq b 0x16 then shown_behind true s else 0
 
 abbrev pub shown : Str → ℕ
 shown = shown_behind false

@@ -1,5 +1,5 @@
 -- What each question to a step system answers: the meaning, or the first refusal in order. Assumes nothing.
-use Rattle.std.specs.Prelude.{ℕ, min, Bool, cond, length, is_some, Some, None, Ok, Err, Option, Result, nat_le}
+use Rattle.std.specs.Prelude.{ℕ, min, Bool, length, is_some, Some, None, Ok, Err, Option, Result, nat_le, if◌then◌else◌}
 use Rattle.steps.specs.declared.label.Label.{Label}
 use Rattle.steps.specs.declared.fault.SystemFault.TheVariants.{NoState, NoStep, Impossible, StateTooLong, StepTooLong}
 use Rattle.steps.specs.declared.fault.MaskFault.{MaskFault}
@@ -25,7 +25,7 @@ module _ (t : Transitions) where
   step_refusal x = elim (t.bad_step x) [ None ↦ None | Some p ↦ Some (Inner (NoStep p)) ]
 
   abbrev pub hidden_refusal : Str → Option MaskFault
-  hidden_refusal x = cond (t.hidden x) (Some Masked) None
+  hidden_refusal x = if t.hidden x then Some Masked else None
 
   abbrev pub state_answer : Str → Result (Unit {0}) MaskFault
   state_answer s = first (state_refusal s) (Ok tt)
@@ -38,7 +38,7 @@ module _ (t : Transitions) where
 
 -- a state that follows, where it fits the limit and a buffer of n bytes
 abbrev pub fitting_state : Str → ℕ → Result Str MaskFault
-fitting_state b n = cond (nat_le (length b) (min n state_limit)) (Ok b) (Err (Inner (StateTooLong (told_length (length b)))))
+fitting_state b n = if nat_le (length b) (min n state_limit) then Ok b else Err (Inner (StateTooLong (told_length (length b))))
 
 abbrev pub move_answer : Result Str ℕ → ℕ → Result Str MaskFault
 move_answer (Err p) n = Err (Inner (Impossible p))
@@ -58,7 +58,7 @@ independent_answer t i x y = both_answer t x y (Ok (is_some (i.left x y)))
 -- a step that is answered, where it fits the limit and a buffer of n bytes
 abbrev pub fitting_step : Option Str → ℕ → Result (Option Str) MaskFault
 fitting_step None n = Ok None
-fitting_step (Some z) n = cond (nat_le (length z) (min n step_limit)) (Ok (Some z)) (Err (Inner (StepTooLong (told_length (length z)))))
+fitting_step (Some z) n = if nat_le (length z) (min n step_limit) then Ok (Some z) else Err (Inner (StepTooLong (told_length (length z))))
 
 -- what is left of x after y, and back for x and z
 abbrev pub left_answer : Transitions → Independence → Str → Str → ℕ → Result (Option Str) MaskFault

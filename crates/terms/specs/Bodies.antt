@@ -1,5 +1,5 @@
 -- The bodies of definitions, as strings and as terms. Assumes nothing.
-use Rattle.std.specs.Prelude.{ℕ, ◌-◌, ◌≤◌, Bool, true, cond, ◌&&◌, not, List, [], ◌∷◌, ◌++◌, length, map, replicate, is_some, Some, None, Ok, Err, Option, Result, nat_eq, nat_lt}
+use Rattle.std.specs.Prelude.{ℕ, ◌-◌, ◌≤◌, Bool, true, ◌&&◌, not, List, [], ◌∷◌, ◌++◌, length, map, replicate, is_some, Some, None, Ok, Err, Option, Result, nat_eq, nat_lt, if◌then◌else◌}
 use Rattle.std.specs.Result.{result_err}
 use Rattle.steps.specs.Meaning.{Str}
 use Rattle.ccs.specs.Syntax.{Term}
@@ -19,7 +19,7 @@ body_limit = 255
 -- the first byte that fits no body over n definitions: a body is a term, and begins with no call
 abbrev pub body_fault : ℕ → Str → Option ℕ
 body_fault n [] = past body_limit [] (result_err (read_term n []))
-body_fault n (b ∷ s) = cond (nat_eq b 0x05) (Some 0) (past body_limit (b ∷ s) (result_err (read_term n (b ∷ s))))
+body_fault n (b ∷ s) = if nat_eq b 0x05 then Some 0 else past body_limit (b ∷ s) (result_err (read_term n (b ∷ s)))
 
 -- each is a body
 unfoldable pub sound_bodies_of : ℕ → List Str → Bool
@@ -36,7 +36,7 @@ terms_in n bodies = map (body_in n) bodies ++ replicate (n - length bodies) nil
 
 -- the next of n definitions is given its body, where one is left that has none
 abbrev pub add_fault : ℕ → List Str → Str → Option BodyFault
-add_fault n bodies s = cond (nat_lt (length bodies) n) (elim (body_fault n s) [ None ↦ None | Some k ↦ Some (NoBody k) ]) (Some Full)
+add_fault n bodies s = if nat_lt (length bodies) n then elim (body_fault n s) [ None ↦ None | Some k ↦ Some (NoBody k) ] else Some Full
 
 abbrev pub add_answer : ℕ → List Str → Str → Result (Unit {0}) BodyFault
 add_answer n bodies s = elim (add_fault n bodies s) [ None ↦ Ok tt | Some f ↦ Err f ]

@@ -1,5 +1,5 @@
 -- Which strings are bodies, and what is told of the others. Assumes nothing.
-use Rattle.std.specs.Prelude.{◌≡◌, ℕ, ◌≤◌, true, ◌↔◌, ◌∷◌, length, take, Some, None}
+use Rattle.std.specs.Prelude.{◌≡◌, ℕ, ◌≤◌, ◌↔◌, ◌∷◌, length, take, Some, None, IsTrue}
 use Rattle.steps.specs.Meaning.{Str}
 use Rattle.ccs.specs.Syntax.{Term}
 use Rattle.ccs.specs.Spelling.{term_bytes, sound_term}
@@ -9,7 +9,7 @@ use Rattle.terms.specs.Bodies.{body_limit, body_fault}
 
 -- a term over n definitions that is no call, of at most 255 bytes
 abbrev pub IsBody : ℕ → Str → Type 0
-IsBody n s = (p : Term) × (term_bytes p ≡ s) × (sound_term n p ≡ true) × (plain p ≡ true) × (length s ≤ body_limit)
+IsBody n s = (p : Term) × (term_bytes p ≡ s) × IsTrue (sound_term n p) × IsTrue (plain p) × (length s ≤ body_limit)
 
 -- A string that begins with a call is told at that; of any other, the longest beginning within the limit that begins a term.
 pub data BodyFaultAt (n : ℕ) : Str → ℕ → Type 0 where

@@ -1,5 +1,5 @@
 // Terms over some definitions, each of which has a body that is a term over them and no call.
-ghost use Rattle.std.specs.Prelude.{◌≡◌, ◌≤◌, true, length};
+ghost use Rattle.std.specs.Prelude.{◌≡◌, ◌≤◌, length, IsTrue};
 ghost use Rattle.terms.specs.Bodies.{definition_limit, sound_bodies_of};
 
 use byte_strings::held::Held;
@@ -17,5 +17,5 @@ pub struct Terms {
     bodies: FixedList<Held<255>, DEFINITION_LIMIT>,
     ghost limited: { count ≤ definition_limit },
     ghost few: { length bodies ≤ count },
-    ghost sound: { sound_bodies_of count bodies ≡ true },
+    ghost sound: { IsTrue (sound_bodies_of count bodies) },
 }

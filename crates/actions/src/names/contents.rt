@@ -1,5 +1,5 @@
 // What a list of names holds: making one, adding to it, and what it hides.
-ghost use Rattle.std.specs.Prelude.{◌≡◌, true, [], is_err};
+ghost use Rattle.std.specs.Prelude.{◌≡◌, [], is_err, IsTrue};
 ghost use Rattle.actions.specs.Contents.{names_of};
 ghost use Rattle.actions.specs.Names.{name_fault, name_answer, names_after, hides, HidesListed};
 
@@ -21,7 +21,7 @@ impl Names {
     pub fn add(&mut self, name: u8) -> Result<(), NameFault>
         ensures answer { result ≡ name_answer (name_fault (names_of self.old) name) }
         ensures names { names_of self.new ≡ names_after (name_fault (names_of self.old) name) (names_of self.old) name }
-        ensures refused { is_err result ≡ true → self.new ≡ self.old }
+        ensures refused { IsTrue (is_err result) → self.new ≡ self.old }
     {
         if self.items.items().len() >= NAME_LIMIT {
             return Err(NameFault::Full);

@@ -1,5 +1,5 @@
 // What a list of pairs holds: making one, adding to it, and what it makes of an action.
-ghost use Rattle.std.specs.Prelude.{◌≡◌, true, [], is_err};
+ghost use Rattle.std.specs.Prelude.{◌≡◌, [], is_err, IsTrue};
 ghost use Rattle.actions.specs.Contents.{pairs_of};
 ghost use Rattle.actions.specs.Pairs.{beside_fault, pair_fault, pair_answer, pairs_after, to_of, replacement, RenamesNames};
 
@@ -21,7 +21,7 @@ impl Pairs {
     pub fn add(&mut self, pair: Pair) -> Result<(), PairFault>
         ensures answer { result ≡ pair_answer (pair_fault (pairs_of self.old) pair) }
         ensures pairs { pairs_of self.new ≡ pairs_after (pair_fault (pairs_of self.old) pair) (pairs_of self.old) pair }
-        ensures refused { is_err result ≡ true → self.new ≡ self.old }
+        ensures refused { IsTrue (is_err result) → self.new ≡ self.old }
     {
         if self.items.items().len() >= PAIR_LIMIT {
             return Err(PairFault::Full);

@@ -1,5 +1,5 @@
 // What a list holds, and how one is made and read out.
-ghost use Rattle.std.specs.Prelude.{◌≡◌, ◌≤◌, false, leb, [], ◌∷◌, ◌++◌, length, take, if◌then◌else◌, nat_le};
+ghost use Rattle.std.specs.Prelude.{◌≡◌, ◌≤◌, false, leb, [], ◌∷◌, ◌++◌, length, take, if◌then◌else◌, nat_le, IsFalse};
 ghost use Rattle.byte_strings.specs.Fitted.{list_within};
 
 use crate::list::{Blank, FixedList};
@@ -49,7 +49,7 @@ impl<T: Blank, const N: usize> FixedList<T, N> {
     pub fn put(&mut self, items: &[T]) -> bool
         ensures answer { result ≡ nat_le (length items.now) N }
         ensures items { self.new ≡ (if leb (length items.now) N then items.now else self.old) }
-        ensures untouched { result ≡ false → self.new ≡ self.old }
+        ensures untouched { IsFalse result → self.new ≡ self.old }
     {
         let Some(list) = FixedList::of(items) else {
             return false;

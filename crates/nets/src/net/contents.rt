@@ -1,5 +1,5 @@
 // What a net holds: making one, adding to it, and the event that a step names.
-ghost use Rattle.std.specs.Prelude.{◌≡◌, false, [], is_ok};
+ghost use Rattle.std.specs.Prelude.{◌≡◌, [], is_ok, IsFalse};
 ghost use Rattle.nets.specs.Contents.{events_of};
 ghost use Rattle.nets.specs.Events.{add_fault, add_answer, events_after};
 ghost use Rattle.nets.specs.System.{read_event, event_answer};
@@ -23,7 +23,7 @@ impl Net {
     pub fn add(&mut self, event: Event) -> Result<(), EventFault>
         ensures answer { result ≡ add_answer (add_fault (events_of self.old) event) }
         ensures events { events_of self.new ≡ events_after (add_fault (events_of self.old) event) (events_of self.old) event }
-        ensures refused { is_ok result ≡ false → self.new ≡ self.old }
+        ensures refused { IsFalse (is_ok result) → self.new ≡ self.old }
     {
         if self.events.items().len() >= EVENT_LIMIT {
             return Err(EventFault::Full);
