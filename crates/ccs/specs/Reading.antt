@@ -1,6 +1,7 @@
 -- Reading bytes: the terms or proofs that they are, or the first byte that fits none. Assumes nothing.
 use Rattle.std.specs.Prelude.{ℕ, zero, suc, Bool, true, false, ◌&&◌, List, [], ◌∷◌, Some, None, Ok, Err, Option, Result, nat_eq, nat_le, nat_lt, if◌then◌else◌}
 use Rattle.steps.specs.Meaning.{Str}
+use Rattle.ccs.specs.declared.node_bytes.TheConstants.{NIL, PREFIX, PARALLEL, SUM, RESTRICTION, CALL, ACT, LEFT, RIGHT, BOTH, CHOOSE_LEFT, CHOOSE_RIGHT, UNDER}
 use Rattle.ccs.specs.Syntax.{Term, Proof}
 use Rattle.ccs.specs.Syntax.Term.{nil, prefix, par, sum, restrict, call}
 use Rattle.ccs.specs.Syntax.Proof.{act, on_left, on_right, both, choose_left, choose_right, under}
@@ -67,12 +68,12 @@ before d k = Some (record { due = d; count = k; build = λ xs. xs })
 unfoldable pub term_byte : ℕ → Due → ℕ → ℕ → Option (Next Term)
 term_byte n node zero b = None
 term_byte n node (suc k) b =
-    if nat_eq b 0x00 then alone nil k
-    else if nat_eq b 0x01 then before action k
-    else if nat_eq b 0x02 then with_parts par k
-    else if nat_eq b 0x03 then with_parts sum k
-    else if nat_eq b 0x04 then before name k
-    else if nat_eq b 0x05 && nat_le 1 n then before number k else None
+    if nat_eq b NIL then alone nil k
+    else if nat_eq b PREFIX then before action k
+    else if nat_eq b PARALLEL then with_parts par k
+    else if nat_eq b SUM then with_parts sum k
+    else if nat_eq b RESTRICTION then before name k
+    else if nat_eq b CALL && nat_le 1 n then before number k else None
 term_byte n action k a = if is_action a then with_part (prefix a) k else None
 term_byte n name k m = if is_name m then with_part (restrict m) k else None
 term_byte n number k d = if nat_lt d n then alone (call d) k else None
@@ -81,13 +82,13 @@ term_byte n number k d = if nat_lt d n then alone (call d) k else None
 unfoldable pub proof_byte : Due → ℕ → ℕ → Option (Next Proof)
 proof_byte node zero b = None
 proof_byte node (suc k) b =
-    if nat_eq b 0x10 then before action k
-    else if nat_eq b 0x11 then with_part on_left k
-    else if nat_eq b 0x12 then with_part on_right k
-    else if nat_eq b 0x13 then with_parts both k
-    else if nat_eq b 0x14 then with_part choose_left k
-    else if nat_eq b 0x15 then with_part choose_right k
-    else if nat_eq b 0x16 then before name k else None
+    if nat_eq b ACT then before action k
+    else if nat_eq b LEFT then with_part on_left k
+    else if nat_eq b RIGHT then with_part on_right k
+    else if nat_eq b BOTH then with_parts both k
+    else if nat_eq b CHOOSE_LEFT then with_part choose_left k
+    else if nat_eq b CHOOSE_RIGHT then with_part choose_right k
+    else if nat_eq b UNDER then before name k else None
 proof_byte action k a = if is_action a then alone (act a) k else None
 proof_byte name k m = if is_name m then with_part (under m) k else None
 proof_byte number k d = None
