@@ -152,15 +152,15 @@ module _ (ds : List Term) (x : Str) (p : ℕ) where
   pub step_places : (terms_transitions ds).bad_step x ≡ Some p → StepFault x p
   step_places e = go (past step_limit x (result_err (read_proof x))) refl e
     where
-      on : (r : Result Proof ℕ) → read_proof x ≡ r → past step_limit x (result_err r) ≡ None → improper_of r ≡ Some p
-          → StepFault x p
+      on : (r : Result Proof ℕ) → read_proof x ≡ r → past step_limit x (result_err r) ≡ None
+          → improper_of r ≡ Some p → StepFault x p
       on (Ok t) r f e =
           let h = proofs.read_is_proof x t r in
           not_proper t h.0 h.1 (within_limit step_limit x f) (subst (FirstIf (ImproperAt t)) e (improper_first t))
       on (Err k) r f e = absurd (cc e)
 
-      go : (o : Option ℕ) → past step_limit x (result_err (read_proof x)) ≡ o → or_else o (improper_of (read_proof x)) ≡ Some p
-          → StepFault x p
+      go : (o : Option ℕ) → past step_limit x (result_err (read_proof x)) ≡ o
+          → or_else o (improper_of (read_proof x)) ≡ Some p → StepFault x p
       go (Some k) f e =
           let same : k ≡ p = cc e in
           let h = place IsProof proof_byte proof_read is_proof begins_proof step_limit x p (f ∙ ap Some same) in
@@ -172,7 +172,7 @@ module _ (ds : List Term) (x : Str) (p : ℕ) where
       rw (unfit_place IsProof proof_byte proof_read is_proof begins_proof step_limit x p (n, b)) refl
   fault_place (not_proper t e s l f) =
       let is : read_proof x ≡ Ok t = ap read_proof (sym e) ∙ proofs.proof_is_read t s in
-      let none : past step_limit x (result_err (read_proof x)) ≡ None = (no_place step_limit x (read_proof x)).1 (ap is_ok is, l) in
+      let none = (no_place step_limit x (read_proof x)).1 (ap is_ok is, l) in
       rw (none, is) (first_improper (improper t) (improper_first t))
     where
       first_improper : (o : Option ℕ) → FirstIf (ImproperAt t) o → o ≡ Some p
