@@ -76,11 +76,12 @@ impl Server {
     }
 
     // Replaces the system by that of a setup; where that is refused, the system stays.
-    // It stays a call: the new system is large, and the place where it is made would be cleared for each frame.
+    // It stays a call: the new system is large, and its place would be cleared for each frame.
     #[inline(never)]
     fn set_up(&mut self, setup: &Setup<'_>) -> Result<(), FrameFault>
         requires { WithinRules (setup_view setup.now) }
-        ensures { set_up_answer result (model_of self.new) ≡ frame_reply (model_of self.old) (setup_view setup.now) }
+        ensures { set_up_answer result (model_of self.new)
+            ≡ frame_reply (model_of self.old) (setup_view setup.now) }
     {
         self.system = setup::build(setup)?;
         Ok(())

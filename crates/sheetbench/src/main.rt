@@ -46,7 +46,8 @@ fn run<R: Read, W: Write>(input: &mut R, output: &mut W) -> io::Result<()> {
     // Buffers with lengths: `Read` and `Write` lend slices, and no heap is used.
     let mut chunk = [0u8; CHUNK];
     let mut out = [0u8; CHUNK];
-    // By a count and no `loop`, whose end does not prove: what is read may go on. No input comes near that many reads.
+    // By a count and no `loop`, whose end does not prove: what is read may go on.
+    // No input comes near that many reads.
     for _ in 0..u64::MAX {
         let n = input.read(&mut chunk)?;
         if n == 0 {

@@ -44,7 +44,7 @@ returns-clause-answer c =
     let m = model_of c.args.self.now in
     let text : (frame_reply (model_of c.args.self.now) (frame_view c.args.frame.now)).text ≡ line (0 ∷ take (c.match-frame.n - 0) c.match-frame.end) =
     elim c.match-frame.branch [
-      | in_default-Setup+in_ok-set_up-in_default-Setup w ↦ let h = w.in_ok-set_up-in_default-Setup.ensures in rw (w.in_default-Setup.is-1, w.n-is) (search rules)
+      | in_default-Setup+in_ok-set_up-in_default-Setup w ↦ rw (w.in_default-Setup.is-1, w.n-is) (sym (ap (λ r. r.text) w.in_ok-set_up-in_default-Setup.ensures))
       | in-Some-Blank-Open+in_ok-open_sheet-in-Some-Blank-Open w ↦ rw (w.in-Some-Blank-Open.is-1, w.n-is) (search rules)
       | in-Some-Open-Add+in_ok-n-in-Some-Open-Add w ↦ rw (w.in-Some-Open-Add.is-1, w.n-is, w.end-is) (answer_told _ _ _ _ w.in_ok-n-in-Some-Open-Add.ensures.answer w.in_ok-n-in-Some-Open-Add.ensures.buffer)
       | in-Some-Open-Swap+in_ok-swap-in-Some-Open-Swap w ↦ rw (w.in-Some-Open-Swap.is-1, w.n-is) (ap call_text (swap_is_silent (system_of m) (reworking_of m) m.pages w.in-Some-Open-Swap.sheet w.in-Some-Open-Swap.place w.in_ok-swap-in-Some-Open-Swap.ensures.answer))
