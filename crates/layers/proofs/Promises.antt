@@ -8,30 +8,28 @@ use Rattle.actions.specs.Names.{all_names, hides}
 use Rattle.actions.specs.Pairs.{to_of, sound_pairs, replacement}
 use Rattle.actions.proofs.Listed.{finds, name_found, hides_listed, at_least, at_most, shown}
 use Rattle.actions.proofs.Paired.{listed, to_name, sound_from, sound_rest, renames_names}
-use Rattle.steps.specs.declared.fault.MaskFault.{MaskFault}
-use Rattle.steps.specs.declared.fault.MaskFault.TheVariants.{Masked, Inner}
-use Rattle.steps.specs.declared.fault.SystemFault.TheVariants.{NoStep}
 use Rattle.steps.specs.declared.label.Label.{Label}
-use Rattle.steps.specs.Answers.{first, step_refusal, hidden_refusal, step_answer, independent_answer}
-use Rattle.steps.proofs.Answered.{ok_not_err, some_not_none, step_shaped}
+use Rattle.steps.specs.declared.fault.MaskFault.{MaskFault}
+use Rattle.steps.specs.Answers.{first, step_refusal, hidden_refusal}
+use Rattle.steps.proofs.Answered.{ok_not_err, some_not_none}
 use Rattle.steps.specs.Meaning.{Str, Transitions, Independence}
 use Rattle.layers.specs.Mask.{stops, mask_transitions, mask_independence}
 use Rattle.layers.specs.Renaming.{renamed_label, renaming_transitions}
 use Rattle.layers.specs.MaskLaws.{mask_laws}
 use Rattle.layers.specs.RenamingLaws.{renaming_laws}
-use Rattle.layers.specs.Promises.{Shows, ShowsListed, MaskedSteps, RenamedLabels, MaskedRenamed, NothingListed, LawsKept}
+use Rattle.layers.specs.Promises.{Shows, ShowsListed, MaskedSteps, RenamedLabels, renamed_answer, RenamingAnswers, MaskedRenamed, NothingListed, LawsKept}
 
 -- a listed name or the co-name of one is hidden, and nothing else
-hides_from : (ns : List ℕ) (a : ℕ) → all_names ns ≡ true → ShowsListed ns a → hides ns a ≡ true
+pub hides_from : (ns : List ℕ) (a : ℕ) → all_names ns ≡ true → ShowsListed ns a → hides ns a ≡ true
 hides_from ns a names (n, has, shows) = (hides_listed ns a names).1 (n, name_found ns n names (finds ns n has), has, shows)
 
-hides_to : (ns : List ℕ) (a : ℕ) → all_names ns ≡ true → hides ns a ≡ true → ShowsListed ns a
+pub hides_to : (ns : List ℕ) (a : ℕ) → all_names ns ≡ true → hides ns a ≡ true → ShowsListed ns a
 hides_to ns a names h = let l = (hides_listed ns a names).0 h in (l.0, l.2, l.3)
 
 hides_not : (ns : List ℕ) (a : ℕ) → all_names ns ≡ true → hides ns a ≡ false → ShowsListed ns a → ⊥
 hides_not ns a names h l = false≢true (sym h ∙ hides_from ns a names l)
 
-shows_not : (ns : List ℕ) (a : ℕ) → all_names ns ≡ true → (ShowsListed ns a → ⊥) → hides ns a ≡ false
+pub shows_not : (ns : List ℕ) (a : ℕ) → all_names ns ≡ true → (ShowsListed ns a → ⊥) → hides ns a ≡ false
 shows_not ns a names none = go (hides ns a) refl
   where
     go : (b : Bool) → hides ns a ≡ b → b ≡ false
@@ -87,17 +85,6 @@ module _ (ns : List ℕ) (names : all_names ns ≡ true) (t : Transitions) where
         λ p. b.1 (p.0, shows_not ns (t.label x).action names p.1, shows_not ns (t.label y).action names p.2),
       )
 
-  is_sent_back : (x : Str) → t.bad_step x ≡ None → ShowsListed ns (t.label x).action → step_answer (mask_transitions ns t) x ≡ Err Masked
-  is_sent_back x shaped l =
-      ap (λ o. first o (first (hidden_refusal (mask_transitions ns t) x) (Ok tt))) (step_shaped (mask_transitions ns t) x shaped)
-      ∙ ap (λ h. first {A = Unit {0}} (cond (cond h true (t.hidden x)) (Some Masked) None) (Ok tt)) (hides_from ns (t.label x).action names l)
-
-  is_shape_first : (i : Independence) (x y : Str) (p : ℕ) → t.bad_step x ≡ None → t.bad_step y ≡ Some p → independent_answer (mask_transitions ns t) (mask_independence ns t i) x y ≡ Err (Inner (NoStep p))
-  is_shape_first i x y p shaped bad =
-      let rest = first (hidden_refusal (mask_transitions ns t) x) (first (hidden_refusal (mask_transitions ns t) y) (Ok (is_some ((mask_independence ns t i).left x y)))) in
-      ap (λ o. first o (first (step_refusal (mask_transitions ns t) y) rest)) (step_shaped (mask_transitions ns t) x shaped)
-      ∙ ap (λ o. first (elim o as (λ _. Option MaskFault) [ None ↦ None | Some k ↦ Some (Inner (NoStep k)) ]) rest) bad
-
   pub masked_steps : (i : Independence) → MaskedSteps ns t i
   masked_steps i =
       record {
@@ -105,10 +92,8 @@ module _ (ns : List ℕ) (names : all_names ns ≡ true) (t : Transitions) where
         silent = λ x zero. cond-false (stops ns t x) false (t.step x) (hides_silent ns (t.label x).action names zero);
         moves = stays_move;
         rests = stays_left i;
-        sent_back = is_sent_back;
         states = refl;
         labels = refl;
-        shape_first = is_shape_first i;
       }
 
 -- what shows a pair's name is the name or its co-name
@@ -188,3 +173,21 @@ module _ (ps : List Pair) (sound : sound_pairs ps ≡ true) where
               λ q. b.1 (q.0, λ h. q.1 (subst (ShowsListed ns) same h)),
             );
       }
+
+-- a label behind the refusals of its step; nothing else speaks of labels
+pub renaming_answers : (ps : List Pair) (t : Transitions) (i : Independence) → RenamingAnswers ps t i
+renaming_answers ps t i =
+    record {
+      state = λ s. refl;
+      step = λ x. refl;
+      label = λ x. behind (step_refusal t x) (hidden_refusal t x) (t.label x);
+      next = λ a x n. refl;
+      independent = λ x y. refl;
+      residual = λ x y n. refl;
+      back = λ x z n. refl;
+    }
+  where
+    behind : (o h : Option MaskFault) (l : Label) → first o (first h (Ok (renamed_label ps l))) ≡ renamed_answer ps (first o (first h (Ok l)))
+    behind (Some f) h l = refl
+    behind None (Some f) l = refl
+    behind None None l = refl
