@@ -1,1 +1,3 @@
 mod Stored
+mod Spelling
+pub mod ByRules
