@@ -30,17 +30,17 @@ told_second : {A : Type 0} (o h : Option MaskFault) (f : MaskFault) (r : Result 
 told_second o h f r e g = ap₂ (λ o h. first o (first h r)) e g
 
 -- with the mask's test answered so for every string
-tested : (t : Transitions) → Bool → Transitions
+abbrev tested : (t : Transitions) → Bool → Transitions
 tested t h = record t { hidden = λ x. cond h true (t.hidden x); next = λ a x. cond h (Err 0) (t.next a x) }
 
 module _ (ns : List ℕ) (names : all_names ns ≡ true) (t : Transitions) where
   -- by cases on the test
   by_test : {P : Type 0} (x : Str) → (Listed ns t x → stops ns t x ≡ true → P) → ((Listed ns t x → ⊥) → stops ns t x ≡ false → P) → P
-  by_test {P} x yes no = go (stops ns t x) refl
+  by_test {P} x holds fails = go (stops ns t x) refl
     where
       go : (b : Bool) → stops ns t x ≡ b → P
-      go true e = yes (hides_to ns (t.label x).action names e) e
-      go false e = no (λ l. false≢true (sym e ∙ hides_from ns (t.label x).action names l)) e
+      go true e = holds (hides_to ns (t.label x).action names e) e
+      go false e = fails (λ l. false≢true (sym e ∙ hides_from ns (t.label x).action names l)) e
 
   by_shape : {P : Type 0} (x : Str) → (Shaped ns t x → P) → ((p : ℕ) → t.bad_step x ≡ Some p → P) → P
   by_shape {P} x shaped unshaped = go (t.bad_step x) refl
@@ -65,20 +65,20 @@ module _ (ns : List ℕ) (names : all_names ns ≡ true) (t : Transitions) where
       record { unlisted = unlisted; masked = (to, from); no_step = λ p b. (unshaped p b).0 }
     where
       unlisted : (Listed ns t x → ⊥) → answer ≡ inside
-      unlisted no = passed (shows_not ns (t.label x).action names no)
+      unlisted shows = passed (shows_not ns (t.label x).action names shows)
 
       to : answer ≡ Err Masked → (Shaped ns t x × Listed ns t x) ⊎ (inside ≡ Err Masked)
       to g =
           by_test x
           (λ l e. by_shape x (λ s. inl (s, l)) (λ p b. inner_not_masked (NoStep p) answer (unshaped p b).0 g))
-          (λ no e. inr (sym (passed e) ∙ g))
+          (λ other e. inr (sym (passed e) ∙ g))
 
       from : (Shaped ns t x × Listed ns t x) ⊎ (inside ≡ Err Masked) → answer ≡ Err Masked
       from (inl (s, l)) = stopped s (hides_from ns (t.label x).action names l)
       from (inr g) =
           by_test x
           (λ l e. by_shape x (λ s. stopped s e) (λ p b. inner_not_masked (NoStep p) inside (unshaped p b).1 g))
-          (λ no e. passed e ∙ g)
+          (λ other e. passed e ∙ g)
 
   on_both : {A : Type 0} (x y : Str) (inside answer : Result A MaskFault) →
       (stops ns t x ≡ false → stops ns t y ≡ false → answer ≡ inside) →
@@ -86,9 +86,9 @@ module _ (ns : List ℕ) (names : all_names ns ≡ true) (t : Transitions) where
       ((p : ℕ) → t.bad_step x ≡ Some p → BothTell inside answer p) →
       ((p : ℕ) → Shaped ns t x → t.bad_step y ≡ Some p → BothTell inside answer p) →
       AnswersOnBoth ns t x y inside answer
-  on_both x y inside answer passed stopped no_first no_second =
+  on_both {A} x y inside answer passed stopped no_first no_second =
       record {
-        unlisted = λ no none. passed (shows_not ns (t.label x).action names no) (shows_not ns (t.label y).action names none);
+        unlisted = λ first second. passed (shows_not ns (t.label x).action names first) (shows_not ns (t.label y).action names second);
         masked = (to, from);
         no_first = λ p b. (no_first p b).0;
         no_second = λ p s b. (no_second p s b).0;
@@ -106,7 +106,7 @@ module _ (ns : List ℕ) (names : all_names ns ≡ true) (t : Transitions) where
       to g =
           by_test x
           (λ l e. shaped answer g (λ p h. h.0) (λ s u. inl (s, u, inl l)))
-          (λ no e. by_test y (λ l f. shaped answer g (λ p h. h.0) (λ s u. inl (s, u, inr l))) (λ none f. inr (sym (passed e f) ∙ g)))
+          (λ other e. by_test y (λ l f. shaped answer g (λ p h. h.0) (λ s u. inl (s, u, inr l))) (λ none f. inr (sym (passed e f) ∙ g)))
 
       from : (Shaped ns t x × Shaped ns t y × (Listed ns t x ⊎ Listed ns t y)) ⊎ (inside ≡ Err Masked) → answer ≡ Err Masked
       from (inl (s, u, inl l)) = stopped s u (inl (hides_from ns (t.label x).action names l))
@@ -114,7 +114,7 @@ module _ (ns : List ℕ) (names : all_names ns ≡ true) (t : Transitions) where
       from (inr g) =
           by_test x
           (λ l e. shaped inside g (λ p h. h.1) (λ s u. stopped s u (inl e)))
-          (λ no e. by_test y (λ l f. shaped inside g (λ p h. h.1) (λ s u. stopped s u (inr f))) (λ none f. passed e f ∙ g))
+          (λ other e. by_test y (λ l f. shaped inside g (λ p h. h.1) (λ s u. stopped s u (inr f))) (λ none f. passed e f ∙ g))
 
   -- what is asked of one step, and then r inside and r' of the mask
   of_one : {A : Type 0} (x : Str) (r r' : Result A MaskFault) → (stops ns t x ≡ false → r' ≡ r) →
@@ -130,7 +130,7 @@ module _ (ns : List ℕ) (names : all_names ns ≡ true) (t : Transitions) where
   -- of two steps
   of_both : {A : Type 0} (x y : Str) (r r' : Result A MaskFault) → (stops ns t x ≡ false → stops ns t y ≡ false → r' ≡ r) →
       AnswersOnBoth ns t x y (both_answer t x y r) (both_answer (mask_transitions ns t) x y r')
-  of_both x y r r' same =
+  of_both {A} x y r r' same =
       on_both x y _ _
       (λ e f. ap₂ (λ h k. first (step_refusal t x) (first (step_refusal t y) (first (hidden_refusal (tested t h) x) (first (hidden_refusal (tested t k) y) r')))) e f
         ∙ ap (both_answer t x y) (same e f))

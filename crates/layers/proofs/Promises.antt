@@ -1,12 +1,13 @@
 -- What masks and renamings promise holds over every step system.
-use Rattle.std.proofs.Common.{◌≡◌, ℕ, ◌+◌, Bool, true, false, cond, ◌||◌, ◌↔◌, inl, inr, List, [], ◌∷◌, nat_eq, is_some, Some, None, Ok, Err, Option, Result, refl, sym, ap, subst, ◌∙◌, arith}
-use Rattle.std.proofs.lemmas.Bool.{cond-false, false≢true, eqb-true}
+use Rattle.std.proofs.Common.{◌≡◌, ℕ, ◌+◌, Bool, true, false, cond, ◌||◌, ◌⊎◌, ◌↔◌, inl, inr, List, [], ◌∷◌, nat_eq, is_some, Some, None, Ok, Err, Option, Result, refl, sym, ap, subst, ◌∙◌, arith}
+use Rattle.std.proofs.lemmas.Bool.{cond-false, false≢true, eqb-true, eqb-false}
+use Rattle.std.proofs.lemmas.List.Elements.{Contains-append_left, Contains-append_right, Contains-append_cases, Contains-push_cases}
 use Rattle.std.specs.List.{Contains}
 use Rattle.actions.specs.declared.pairs.Pair.{Pair}
 use Rattle.actions.specs.Action.{is_name, name_of}
 use Rattle.actions.specs.Names.{all_names, hides}
 use Rattle.actions.specs.Pairs.{to_of, sound_pairs, replacement}
-use Rattle.actions.proofs.Listed.{finds, name_found, hides_listed, at_least, at_most, shown}
+use Rattle.actions.proofs.Listed.{contains_one, finds, name_found, hides_listed, at_least, at_most, shown}
 use Rattle.actions.proofs.Paired.{listed, to_name, sound_from, sound_rest, renames_names}
 use Rattle.steps.specs.declared.label.Label.{Label}
 use Rattle.steps.specs.declared.fault.MaskFault.{MaskFault}
@@ -15,9 +16,9 @@ use Rattle.steps.proofs.Answered.{ok_not_err, some_not_none}
 use Rattle.steps.specs.Meaning.{Str, Transitions, Independence}
 use Rattle.layers.specs.Mask.{stops, mask_transitions, mask_independence}
 use Rattle.layers.specs.Renaming.{renamed_label, renaming_transitions}
-use Rattle.layers.specs.MaskLaws.{mask_laws}
-use Rattle.layers.specs.RenamingLaws.{renaming_laws}
-use Rattle.layers.specs.Promises.{Shows, ShowsListed, MaskedSteps, RenamedLabels, renamed_answer, RenamingAnswers, MaskedRenamed, NothingListed, LawsKept}
+use Rattle.layers.specs.Laws.MaskLaws.{mask_laws}
+use Rattle.layers.specs.Laws.RenamingLaws.{renaming_laws}
+use Rattle.layers.specs.Promises.{Shows, ShowsListed, Renames, MaskedSteps, RenamedLabels, renamed_answer, RenamingAnswers, MaskedRenamed, NothingListed, LawsKept}
 
 -- a listed name or the co-name of one is hidden, and nothing else
 pub hides_from : (ns : List ℕ) (a : ℕ) → all_names ns ≡ true → ShowsListed ns a → hides ns a ≡ true
@@ -96,6 +97,35 @@ module _ (ns : List ℕ) (names : all_names ns ≡ true) (t : Transitions) where
         labels = refl;
       }
 
+-- an action shows a name, or does not
+shows_or_not : (a n : ℕ) → Shows a n ⊎ (Shows a n → ⊥)
+shows_or_not a n = go (nat_eq a n) refl (nat_eq a (n + 64)) refl
+  where
+    go : (b : Bool) → nat_eq a n ≡ b → (c : Bool) → nat_eq a (n + 64) ≡ c → Shows a n ⊎ (Shows a n → ⊥)
+    go true e c f = inl (inl (eqb-true a n e))
+    go false e true f = inl (inr (eqb-true a (n + 64) f))
+    go false e false f = inr (λ shows. elim shows [ inl g ↦ eqb-false a n e g | inr g ↦ eqb-false a (n + 64) f g ])
+
+-- a pair has the name that it shows, or none has
+pair_or_none : (qs : List Pair) (a : ℕ) → ((p : Pair) × Contains qs p × Shows a p.from) ⊎ ((p : Pair) → Contains qs p → Shows a p.from → ⊥)
+pair_or_none [] a = inr (λ p has shows. omega (arith, has.1))
+pair_or_none (q ∷ qs) a = go (shows_or_not a q.from) (pair_or_none qs a)
+  where
+    none_of_all : (Shows a q.from → ⊥) → ((p : Pair) → Contains qs p → Shows a p.from → ⊥) → (p : Pair) → Contains (q ∷ qs) p → Shows a p.from → ⊥
+    none_of_all not_first none p has shows =
+        elim (Contains-append_cases (q ∷ []) qs p has) [
+          | inl first ↦ elim (Contains-push_cases [] q p first) [
+            | inl (k, below, at) ↦ absurd (omega (arith, below))
+            | inr e ↦ not_first (subst (λ r. Shows a r.from) (sym e) shows)
+          ]
+          | inr later ↦ none p later shows
+        ]
+
+    go : Shows a q.from ⊎ (Shows a q.from → ⊥) → ((p : Pair) × Contains qs p × Shows a p.from) ⊎ ((p : Pair) → Contains qs p → Shows a p.from → ⊥) → ((p : Pair) × Contains (q ∷ qs) p × Shows a p.from) ⊎ ((p : Pair) → Contains (q ∷ qs) p → Shows a p.from → ⊥)
+    go (inl shows) rest = inl (q, Contains-append_left (q ∷ []) qs q (contains_one q q refl), shows)
+    go (inr not_first) (inl (p, has, shows)) = inl (p, Contains-append_right (q ∷ []) qs p has, shows)
+    go (inr not_first) (inr none) = inr (none_of_all not_first none)
+
 -- what shows a pair's name is the name or its co-name
 label_same : (ps : List Pair) (l : Label) → replacement ps l.action ≡ l.action → renamed_label ps l ≡ l
 label_same ps l e = ap (λ a. record l { action = a }) e
@@ -128,12 +158,32 @@ module _ (ps : List Pair) (sound : sound_pairs ps ≡ true) where
   renamed_co_name : (a : ℕ) (p : Pair) → Contains ps p → a ≡ p.from + 64 → replacement ps a ≡ p.to + 64
   renamed_co_name a p has e = ap (replacement ps) e ∙ ((renames_names ps sound).listed p has).1
 
+  pub renames_exactly : (a c : ℕ) → (replacement ps a ≡ c) ↔ Renames ps a c
+  renames_exactly a c = (to, from)
+    where
+      paired : (p : Pair) → Contains ps p → Shows a p.from → replacement ps a ≡ c → Renames ps a c
+      paired p has (inl e) h = Renames.name p has e (sym h ∙ renamed_name a p has e)
+      paired p has (inr e) h = Renames.co_name p has e (sym h ∙ renamed_co_name a p has e)
+
+      by_pair : ((p : Pair) × Contains ps p × Shows a p.from) ⊎ ((p : Pair) → Contains ps p → Shows a p.from → ⊥) → replacement ps a ≡ c → Renames ps a c
+      by_pair (inl (p, has, shows)) h = paired p has shows h
+      by_pair (inr none) h = Renames.other none (sym h ∙ renamed_other a none)
+
+      to : replacement ps a ≡ c → Renames ps a c
+      to h = by_pair (pair_or_none ps a) h
+
+      from : Renames ps a c → replacement ps a ≡ c
+      from (Renames.name p has e f) = renamed_name a p has e ∙ sym f
+      from (Renames.co_name p has e f) = renamed_co_name a p has e ∙ sym f
+      from (Renames.other none f) = renamed_other a none ∙ sym f
+
   pub renamed_labels : (t : Transitions) → RenamedLabels ps t
   renamed_labels t =
       record {
         names = λ x p has e. renamed_name (t.label x).action p has e;
         co_names = λ x p has e. renamed_co_name (t.label x).action p has e;
         others = λ x none. label_same ps (t.label x) (renamed_other (t.label x).action none);
+        shown = λ x c. renames_exactly (t.label x).action c;
         steps = refl;
         moves = refl;
       }

@@ -83,6 +83,12 @@ pub record MaskAnswers (ns : List ℕ) (t : Transitions) (i : Independence) : Ty
       (back_answer t i x z n)
       (back_answer (mask_transitions ns t) (mask_independence ns t i) x z n)
 
+-- The action becomes another: a name as its pair says, a co-name likewise; all else stays.
+pub data Renames (ps : List Pair) (a c : ℕ) : Type 0 where
+  name : (p : Pair) → Contains ps p → a ≡ p.from → c ≡ p.to → Renames ps a c
+  co_name : (p : Pair) → Contains ps p → a ≡ p.from + 64 → c ≡ p.to + 64 → Renames ps a c
+  other : ((p : Pair) → Contains ps p → Shows a p.from → ⊥) → c ≡ a → Renames ps a c
+
 -- A renaming replaces the name that a step shows, in a co-name too, where it has a pair.
 pub record RenamedLabels (ps : List Pair) (t : Transitions) : Type 0 where
   pub names : (x : Str) (p : Pair) → Contains ps p → (t.label x).action ≡ p.from →
@@ -91,6 +97,8 @@ pub record RenamedLabels (ps : List Pair) (t : Transitions) : Type 0 where
       ((renaming_transitions ps t).label x).action ≡ p.to + 64
   pub others : (x : Str) → ((p : Pair) → Contains ps p → Shows (t.label x).action p.from → ⊥) →
       (renaming_transitions ps t).label x ≡ t.label x
+  pub shown : (x : Str) (c : ℕ) →
+      (((renaming_transitions ps t).label x).action ≡ c) ↔ Renames ps (t.label x).action c
   pub steps : (renaming_transitions ps t).step ≡ t.step
   pub moves : (renaming_transitions ps t).next ≡ t.next
 

@@ -8,8 +8,11 @@ ghost use Rattle.actions.specs.Contents.{names_of, pairs_of};
 ghost use Rattle.steps.specs.Meaning.{Transitions, Independence};
 ghost use Rattle.layers.specs.Promises.{MaskedSteps, MaskAnswers, RenamedLabels, RenamingAnswers, MaskedRenamed, NothingListed, LawsKept};
 
-pub mod mask;
-pub mod renaming;
+pub mod masks;
+pub mod renamings;
+
+pub use masks::Mask;
+pub use renamings::Renaming;
 
 // What a mask takes away, what a renaming replaces, and that over any step system both are step systems.
 // It has no code: it holds of the meanings that the impls are proved to have.

@@ -99,11 +99,11 @@ module _ (d : Design) (ps : List Pair) (ns : List ℕ) (t : Transitions) (i : In
       go (Some p) e = some p e
 
   by_mask : {P : Type 0} (x : Str) → (t.hidden x ≡ true → P) → (t.hidden x ≡ false → P) → P
-  by_mask {P} x yes no = go (t.hidden x) refl
+  by_mask {P} x holds fails = go (t.hidden x) refl
     where
       go : (b : Bool) → t.hidden x ≡ b → P
-      go true e = yes e
-      go false e = no e
+      go true e = holds e
+      go false e = fails e
 
   by_state : {P : Type 0} (s : Str) → (t.bad_state s ≡ None → P) → ((p : ℕ) → t.bad_state s ≡ Some p → P) → P
   by_state {P} s none some = go (t.bad_state s) refl
@@ -126,10 +126,10 @@ module _ (d : Design) (ps : List Pair) (ns : List ℕ) (t : Transitions) (i : In
 
   -- one step: it is allowed, or refused
   by_step : {P : Type 0} (x : Str) → (Allowed d ps ns x → P) → ((f : MaskFault) → StepRefused d ps ns x f → P) → P
-  by_step x yes no =
+  by_step x holds fails =
       by_shape x
-      (λ e. by_mask x (λ h. let w = (r.within_step x).0 e in no Masked (on_step.masked w ((r.stopped x w).0 h))) (λ h. yes (allowed x e h)))
-      (λ p e. no (Inner (NoStep p)) (on_step.no_step ((r.step_place x p).0 e)))
+      (λ e. by_mask x (λ h. let w = (r.within_step x).0 e in fails Masked (on_step.masked w ((r.stopped x w).0 h))) (λ h. holds (allowed x e h)))
+      (λ p e. fails (Inner (NoStep p)) (on_step.no_step ((r.step_place x p).0 e)))
 
   step_allowed : {A : Type 0} (x : Str) (rest : Result A MaskFault) → Allowed d ps ns x → first (step_refusal t x) (first (hidden_refusal t x) rest) ≡ rest
   step_allowed x rest a = behind _ _ (step_shaped t x (shape_of x a)) ∙ behind _ _ (step_shown t x (shown_of x a))
@@ -255,24 +255,24 @@ module _ (d : Design) (ps : List Pair) (ns : List ℕ) (t : Transitions) (i : In
 
       from : (g : MaskFault) → Refused d ps ns a x n g → next_answer t a x n ≡ Err g
       from g (on_next.step s) = next_refused_step a x n g s
-      from _ (on_next.no_state {p} al no) = next_no_state a x n p al ((r.state_place a p bytes).1 no)
-      from _ (on_next.not_possible {p} al w no k) =
+      from _ (on_next.no_state {p} al fails) = next_no_state a x n p al ((r.state_place a p bytes).1 fails)
+      from _ (on_next.not_possible {p} al w fails k) =
           next_stuck a x n p al ((r.within_state a).1 w) ((r.stuck a x p (shown_of x al) w al.step).1 (no, k))
       from _ (on_next.too_long {b} al w m long) =
           next_moved a x n b al ((r.within_state a).1 w) ((r.moves a x b (shown_of x al)).1 m) ∙ state_too_long b n long
 
   -- two steps: both are allowed, or they are refused
   by_both : {P : Type 0} (x y : Str) → (Allowed d ps ns x → Allowed d ps ns y → P) → ((f : MaskFault) → BothRefused d ps ns x y f → P) → P
-  by_both x y yes no =
+  by_both x y holds fails =
       by_shape x
       (λ e. by_shape y
         (λ g. let w = (r.within_step x).0 e in
           let v = (r.within_step y).0 g in
           by_mask x
-          (λ h. no Masked (on_both.masked w v (inl ((r.stopped x w).0 h))))
-          (λ h. by_mask y (λ k. no Masked (on_both.masked w v (inr ((r.stopped y v).0 k)))) (λ k. yes (allowed x e h) (allowed y g k))))
-        (λ p g. no (Inner (NoStep p)) (on_both.no_second ((r.within_step x).0 e) ((r.step_place y p).0 g))))
-      (λ p e. no (Inner (NoStep p)) (on_both.no_first ((r.step_place x p).0 e)))
+          (λ h. fails Masked (on_both.masked w v (inl ((r.stopped x w).0 h))))
+          (λ h. by_mask y (λ k. fails Masked (on_both.masked w v (inr ((r.stopped y v).0 k)))) (λ k. holds (allowed x e h) (allowed y g k))))
+        (λ p g. fails (Inner (NoStep p)) (on_both.no_second ((r.within_step x).0 e) ((r.step_place y p).0 g))))
+      (λ p e. fails (Inner (NoStep p)) (on_both.no_first ((r.step_place x p).0 e)))
 
   both_allowed : {A : Type 0} (x y : Str) (rest : Result A MaskFault) → Allowed d ps ns x → Allowed d ps ns y → both_answer t x y rest ≡ rest
   both_allowed x y rest a b = both_ok t x y rest (shape_of x a) (shape_of y b) (shown_of x a) (shown_of y b)
