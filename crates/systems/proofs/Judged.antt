@@ -16,10 +16,6 @@ use Rattle.steps.proofs.Answered.{ok_not_err, some_not_none, step_shaped, step_s
 use Rattle.systems.specs.Design.{Design}
 use Rattle.systems.specs.Rules.{Moves, LeftOf, WithinState, WithinStep, NoStateAt, NoStepAt, StuckAt}
 use Rattle.systems.specs.Possible.{ShownAs, Stopped, Allowed, StepRefused, Accepted, Refused, BothRefused, Independent, StepAnswered, NoneAnswered, AnswerRefused, Possible}
-use Rattle.systems.specs.Possible.StepRefused as on_step
-use Rattle.systems.specs.Possible.Refused as on_next
-use Rattle.systems.specs.Possible.BothRefused as on_both
-use Rattle.systems.specs.Possible.AnswerRefused as on_answer
 
 -- what the rules say of each part of a meaning
 pub record ByRules (d : Design) (ps : List Pair) (ns : List ℕ) (t : Transitions) (i : Independence) : Type 0 where
@@ -42,8 +38,8 @@ ok_same : {A F : Type 0} (a b : A) → ◌≡◌ {A = Result A F} (Ok a) (Ok b) 
 ok_same a b e = cc
 
 -- an answer that is refused is this refusal
-refused_as : {A : Type 0} {P : MaskFault → Type 0} (r : Result A MaskFault) (f g : MaskFault) → P f → r ≡ Err f → r ≡ Err g → P g
-refused_as {A} {P} r f g p e h = subst P (err_same f g (sym e ∙ h)) p
+refused_as : {A : Type 0} (P : MaskFault → Type 0) (r : Result A MaskFault) (f g : MaskFault) → P f → r ≡ Err f → r ≡ Err g → P g
+refused_as P r f g p e h = subst P (err_same f g (sym e ∙ h)) p
 
 not_both : {A B : Type 0} (r : Result A MaskFault) (a : A) (f : MaskFault) → r ≡ Ok a → r ≡ Err f → B
 not_both r a f e h = ok_not_err a f (sym e ∙ h)
@@ -128,15 +124,15 @@ module _ (d : Design) (ps : List Pair) (ns : List ℕ) (t : Transitions) (i : In
   by_step : {P : Type 0} (x : Str) → (Allowed d ps ns x → P) → ((f : MaskFault) → StepRefused d ps ns x f → P) → P
   by_step x holds fails =
       by_shape x
-      (λ e. by_mask x (λ h. let w = (r.within_step x).0 e in fails Masked (on_step.masked w ((r.stopped x w).0 h))) (λ h. holds (allowed x e h)))
-      (λ p e. fails (Inner (NoStep p)) (on_step.no_step ((r.step_place x p).0 e)))
+      (λ e. by_mask x (λ h. let w = (r.within_step x).0 e in fails Masked (StepRefused.masked w ((r.stopped x w).0 h))) (λ h. holds (allowed x e h)))
+      (λ p e. fails (Inner (NoStep p)) (StepRefused.no_step ((r.step_place x p).0 e)))
 
   step_allowed : {A : Type 0} (x : Str) (rest : Result A MaskFault) → Allowed d ps ns x → first (step_refusal t x) (first (hidden_refusal t x) rest) ≡ rest
   step_allowed x rest a = behind _ _ (step_shaped t x (shape_of x a)) ∙ behind _ _ (step_shown t x (shown_of x a))
 
   step_refused : {A : Type 0} (x : Str) (rest : Result A MaskFault) (f : MaskFault) → StepRefused d ps ns x f → first (step_refusal t x) (first (hidden_refusal t x) rest) ≡ Err f
-  step_refused x rest _ (on_step.no_step {p} n) = at_once _ _ _ (no_step_told t x p ((r.step_place x p).1 n))
-  step_refused x rest _ (on_step.masked w s) =
+  step_refused x rest _ (StepRefused.no_step {p} n) = at_once _ _ _ (no_step_told t x p ((r.step_place x p).1 n))
+  step_refused x rest _ (StepRefused.masked w s) =
       behind _ _ (step_shaped t x ((r.within_step x).1 w)) ∙ at_once _ _ _ (masked_told t x ((r.stopped x w).1 s))
 
   -- what is asked of one step alone
@@ -150,7 +146,7 @@ module _ (d : Design) (ps : List Pair) (ns : List ℕ) (t : Transitions) (i : In
   step_refused_exactly x v f = (
     λ e. by_step x
         (λ a. not_both _ v f (step_allowed x (Ok v) a) e)
-        (λ g s. refused_as {P = StepRefused d ps ns x} _ g f s (step_refused x (Ok v) g s) e),
+        (λ g s. refused_as (StepRefused d ps ns x) _ g f s (step_refused x (Ok v) g s) e),
     step_refused x (Ok v) f,
   )
 
@@ -169,14 +165,14 @@ module _ (d : Design) (ps : List Pair) (ns : List ℕ) (t : Transitions) (i : In
     λ w. behind _ _ (state_shaped t s ((r.within_state s).1 w)),
   )
 
-  no_state_same : {P : Type 0} (p q : ℕ) → ◌≡◌ {A = MaskFault} (Inner (NoState p)) (Inner (NoState q)) → p ≡ q
+  no_state_same : (p q : ℕ) → ◌≡◌ {A = MaskFault} (Inner (NoState p)) (Inner (NoState q)) → p ≡ q
   no_state_same p q e = cc
 
   states_refused : (s : Str) (p : ℕ) → All (λ byte. byte < 256) s → (state_answer t s ≡ Err (Inner (NoState p))) ↔ NoStateAt d s p
   states_refused s p bytes = (
     λ e. by_state s
         (λ n. not_both _ tt (Inner (NoState p)) (behind _ _ (state_shaped t s n)) e)
-        (λ q n. (r.state_place s p bytes).0 (n ∙ ap Some (cc (err_same _ _ (sym (at_once _ _ _ (no_state_told t s q n)) ∙ e))))),
+        (λ q n. (r.state_place s p bytes).0 (n ∙ ap Some (no_state_same q p (err_same _ _ (sym (at_once _ _ _ (no_state_told t s q n)) ∙ e))))),
     λ n. at_once _ _ _ (no_state_told t s p ((r.state_place s p bytes).1 n)),
   )
 
@@ -234,8 +230,8 @@ module _ (d : Design) (ps : List Pair) (ns : List ℕ) (t : Transitions) (i : In
   next_refused_exactly : (a x : Str) (n : ℕ) (f : MaskFault) → All (λ byte. byte < 256) a → (next_answer t a x n ≡ Err f) ↔ Refused d ps ns a x n f
   next_refused_exactly a x n f bytes = (to, from f)
     where
-      as : (g : MaskFault) → Refused d ps ns a x n g → next_answer t a x n ≡ Err g → next_answer t a x n ≡ Err f → Refused d ps ns a x n f
-      as g why e h = refused_as {P = Refused d ps ns a x n} _ g f why e h
+      told : (g : MaskFault) → Refused d ps ns a x n g → next_answer t a x n ≡ Err g → next_answer t a x n ≡ Err f → Refused d ps ns a x n f
+      told g why e h = refused_as (Refused d ps ns a x n) _ g f why e h
 
       to : next_answer t a x n ≡ Err f → Refused d ps ns a x n f
       to h =
@@ -244,21 +240,21 @@ module _ (d : Design) (ps : List Pair) (ns : List ℕ) (t : Transitions) (i : In
             (λ e. by_move a x
               (λ c m. by_length (length c) (min n state_limit)
                 (λ short. not_both _ c f (next_moved a x n c al e m ∙ state_fits c n short) h)
-                (λ long. as _ (on_next.too_long {b = c} al ((r.within_state a).0 e) ((r.moves a x c (shown_of x al)).0 m) long)
+                (λ long. told _ (Refused.too_long c al ((r.within_state a).0 e) ((r.moves a x c (shown_of x al)).0 m) long)
                   (next_moved a x n c al e m ∙ state_too_long c n long) h))
               (λ p m.
                 let w = (r.within_state a).0 e in
                 let k = (r.stuck a x p (shown_of x al) w al.step).0 m in
-                as _ (on_next.not_possible al w k.0 k.1) (next_stuck a x n p al e m) h))
-            (λ p e. as _ (on_next.no_state al ((r.state_place a p bytes).0 e)) (next_no_state a x n p al e) h))
-          (λ g s. as g (on_next.step s) (next_refused_step a x n g s) h)
+                told _ (Refused.not_possible al w k.0 k.1) (next_stuck a x n p al e m) h))
+            (λ p e. told _ (Refused.no_state al ((r.state_place a p bytes).0 e)) (next_no_state a x n p al e) h))
+          (λ g s. told g (Refused.step s) (next_refused_step a x n g s) h)
 
       from : (g : MaskFault) → Refused d ps ns a x n g → next_answer t a x n ≡ Err g
-      from g (on_next.step s) = next_refused_step a x n g s
-      from _ (on_next.no_state {p} al fails) = next_no_state a x n p al ((r.state_place a p bytes).1 fails)
-      from _ (on_next.not_possible {p} al w fails k) =
-          next_stuck a x n p al ((r.within_state a).1 w) ((r.stuck a x p (shown_of x al) w al.step).1 (no, k))
-      from _ (on_next.too_long {b} al w m long) =
+      from g (Refused.step s) = next_refused_step a x n g s
+      from _ (Refused.no_state {p} al none) = next_no_state a x n p al ((r.state_place a p bytes).1 none)
+      from _ (Refused.not_possible {p} al w nowhere k) =
+          next_stuck a x n p al ((r.within_state a).1 w) ((r.stuck a x p (shown_of x al) w al.step).1 (nowhere, k))
+      from _ (Refused.too_long b al w m long) =
           next_moved a x n b al ((r.within_state a).1 w) ((r.moves a x b (shown_of x al)).1 m) ∙ state_too_long b n long
 
   -- two steps: both are allowed, or they are refused
@@ -269,19 +265,19 @@ module _ (d : Design) (ps : List Pair) (ns : List ℕ) (t : Transitions) (i : In
         (λ g. let w = (r.within_step x).0 e in
           let v = (r.within_step y).0 g in
           by_mask x
-          (λ h. fails Masked (on_both.masked w v (inl ((r.stopped x w).0 h))))
-          (λ h. by_mask y (λ k. fails Masked (on_both.masked w v (inr ((r.stopped y v).0 k)))) (λ k. holds (allowed x e h) (allowed y g k))))
-        (λ p g. fails (Inner (NoStep p)) (on_both.no_second ((r.within_step x).0 e) ((r.step_place y p).0 g))))
-      (λ p e. fails (Inner (NoStep p)) (on_both.no_first ((r.step_place x p).0 e)))
+          (λ h. fails Masked (BothRefused.masked w v (inl ((r.stopped x w).0 h))))
+          (λ h. by_mask y (λ k. fails Masked (BothRefused.masked w v (inr ((r.stopped y v).0 k)))) (λ k. holds (allowed x e h) (allowed y g k))))
+        (λ p g. fails (Inner (NoStep p)) (BothRefused.no_second ((r.within_step x).0 e) ((r.step_place y p).0 g))))
+      (λ p e. fails (Inner (NoStep p)) (BothRefused.no_first ((r.step_place x p).0 e)))
 
   both_allowed : {A : Type 0} (x y : Str) (rest : Result A MaskFault) → Allowed d ps ns x → Allowed d ps ns y → both_answer t x y rest ≡ rest
   both_allowed x y rest a b = both_ok t x y rest (shape_of x a) (shape_of y b) (shown_of x a) (shown_of y b)
 
   both_refused : {A : Type 0} (x y : Str) (rest : Result A MaskFault) (f : MaskFault) → BothRefused d ps ns x y f → both_answer t x y rest ≡ Err f
-  both_refused x y rest _ (on_both.no_first {p} n) = at_once _ _ _ (no_step_told t x p ((r.step_place x p).1 n))
-  both_refused x y rest _ (on_both.no_second {p} w n) =
+  both_refused x y rest _ (BothRefused.no_first {p} n) = at_once _ _ _ (no_step_told t x p ((r.step_place x p).1 n))
+  both_refused x y rest _ (BothRefused.no_second {p} w n) =
       behind _ _ (step_shaped t x ((r.within_step x).1 w)) ∙ at_once _ _ _ (no_step_told t y p ((r.step_place y p).1 n))
-  both_refused {A} x y rest _ (on_both.masked w v which) =
+  both_refused {A} x y rest _ (BothRefused.masked w v which) =
       behind _ _ (step_shaped t x ((r.within_step x).1 w)) ∙ behind _ _ (step_shaped t y ((r.within_step y).1 v)) ∙ either which
     where
       second : (h : Bool) (k : Option MaskFault) → k ≡ Some Masked → first {A = A} (hidden_refusal (record t { hidden = λ _. h }) x) (first k rest) ≡ Err Masked
@@ -304,10 +300,10 @@ module _ (d : Design) (ps : List Pair) (ns : List ℕ) (t : Transitions) (i : In
   bool_apart e = absurd (false≢true (sym (ok_same true false e)))
 
   independent_is : (x y z : Str) → Allowed d ps ns x → Allowed d ps ns y → i.left x y ≡ Some z → independent_answer t i x y ≡ Ok true
-  independent_is x y z a b e = both_allowed x y (Ok (is_some (i.left x y))) a b ∙ ap (λ o. Ok (is_some o)) e
+  independent_is x y z a b e = both_allowed x y (Ok (is_some (i.left x y))) a b ∙ ap (λ (o : Option Str). Ok (is_some o)) e
 
   dependent_is : (x y : Str) → Allowed d ps ns x → Allowed d ps ns y → i.left x y ≡ None → independent_answer t i x y ≡ Ok false
-  dependent_is x y a b e = both_allowed x y (Ok (is_some (i.left x y))) a b ∙ ap (λ o. Ok (is_some {A = Str} o)) e
+  dependent_is x y a b e = both_allowed x y (Ok (is_some (i.left x y))) a b ∙ ap (λ (o : Option Str). Ok (is_some o)) e
 
   left_of : (x y z : Str) → Allowed d ps ns x → Allowed d ps ns y → (i.left x y ≡ Some z) ↔ LeftOf d x y z
   left_of x y z a b = r.left x y z (shown_of x a) (shown_of y b)
@@ -339,7 +335,7 @@ module _ (d : Design) (ps : List Pair) (ns : List ℕ) (t : Transitions) (i : In
   independents_refused x y f = (
     λ h. by_both x y
         (λ a b. not_both _ (is_some (i.left x y)) f (both_allowed x y (Ok (is_some (i.left x y))) a b) h)
-        (λ g s. refused_as {P = BothRefused d ps ns x y} _ g f s (both_refused x y (Ok (is_some (i.left x y))) g s) h),
+        (λ g s. refused_as (BothRefused d ps ns x y) _ g f s (both_refused x y (Ok (is_some (i.left x y))) g s) h),
     both_refused x y (Ok (is_some (i.left x y))) f,
   )
 
@@ -393,8 +389,8 @@ module _ (d : Design) (ps : List Pair) (ns : List ℕ) (t : Transitions) (i : In
     answers_refused : (f : MaskFault) → (both_answer t x y (fitting_step o n) ≡ Err f) ↔ AnswerRefused d ps ns x y Is n f
     answers_refused f = (to, from f)
       where
-        as : (g : MaskFault) → AnswerRefused d ps ns x y Is n g → both_answer t x y (fitting_step o n) ≡ Err g → both_answer t x y (fitting_step o n) ≡ Err f → AnswerRefused d ps ns x y Is n f
-        as g why e h = refused_as {P = AnswerRefused d ps ns x y Is n} _ g f why e h
+        told : (g : MaskFault) → AnswerRefused d ps ns x y Is n g → both_answer t x y (fitting_step o n) ≡ Err g → both_answer t x y (fitting_step o n) ≡ Err f → AnswerRefused d ps ns x y Is n f
+        told g why e h = refused_as (AnswerRefused d ps ns x y Is n) _ g f why e h
 
         to : both_answer t x y (fitting_step o n) ≡ Err f → AnswerRefused d ps ns x y Is n f
         to h =
@@ -402,13 +398,13 @@ module _ (d : Design) (ps : List Pair) (ns : List ℕ) (t : Transitions) (i : In
             (λ a b. by_answer
               (λ w e. by_length (length w) (min n step_limit)
                 (λ short. not_both _ (Some w) f (some_is w a b e ∙ step_fits w n short) h)
-                (λ long. as _ (on_answer.too_long {z = w} a b ((exactly w a b).0 e) long) (some_is w a b e ∙ step_too_long w n long) h))
+                (λ long. told _ (AnswerRefused.too_long w a b ((exactly w a b).0 e) long) (some_is w a b e ∙ step_too_long w n long) h))
               (λ e. not_both _ None f (none_is a b e) h))
-            (λ g s. as g (on_answer.steps s) (both_refused x y (fitting_step o n) g s) h)
+            (λ g s. told g (AnswerRefused.steps s) (both_refused x y (fitting_step o n) g s) h)
 
         from : (g : MaskFault) → AnswerRefused d ps ns x y Is n g → both_answer t x y (fitting_step o n) ≡ Err g
-        from g (on_answer.steps s) = both_refused x y (fitting_step o n) g s
-        from _ (on_answer.too_long {z} a b is long) = some_is z a b ((exactly z a b).1 is) ∙ step_too_long z n long
+        from g (AnswerRefused.steps s) = both_refused x y (fitting_step o n) g s
+        from _ (AnswerRefused.too_long z a b is long) = some_is z a b ((exactly z a b).1 is) ∙ step_too_long z n long
 
   back_of : (x z y : Str) → Allowed d ps ns x → Allowed d ps ns z → (i.back x z ≡ Some y) ↔ LeftOf d y x z
   back_of x z y a b = r.back x z y (shown_of x a) (shown_of z b)

@@ -10,7 +10,12 @@ use Rattle.steps.specs.Meaning.{Str, Transitions, Independence}
 use Rattle.steps.specs.Laws.{state_limit, step_limit}
 use Rattle.steps.specs.Answers.{told_length, state_answer, step_answer, label_answer, next_answer, independent_answer, left_answer, back_answer}
 use Rattle.layers.specs.Promises.{ShowsListed, Renames}
-use Rattle.systems.specs.Design.{Design}
+use Rattle.actions.specs.Contents.{names_of, pairs_of}
+use Rattle.layers.specs.declared.masks.Mask.{Mask}
+use Rattle.layers.specs.declared.renamings.Renaming.{Renaming}
+use Rattle.systems.specs.declared.terms_or_net.TermsOrNet.{TermsOrNet}
+use Rattle.systems.specs.Design.{Design, design_of}
+use Rattle.systems.specs.Layered.{transitions_of_system, independence_of_system}
 use Rattle.systems.specs.Rules.{Moves, Does, LeftOf, WithinState, WithinStep, NoStateAt, NoStepAt, StuckAt}
 
 -- a design, the pairs that rename what its steps show, and the names that a mask hides
@@ -54,7 +59,7 @@ module _ (d : Design) (ps : List Pair) (ns : List ℕ) where
     not_possible : {p : ℕ} → Allowed x → WithinState d a → ((b : Str) → Moves d a x b → ⊥) →
         StuckAt d a x p → Refused a x n (Inner (Impossible p))
     -- the state that follows is too long: the length that it needs
-    too_long : {b : Str} → Allowed x → WithinState d a → Moves d a x b → min n state_limit < length b →
+    too_long : (b : Str) → Allowed x → WithinState d a → Moves d a x b → min n state_limit < length b →
         Refused a x n (Inner (StateTooLong (told_length (length b))))
 
   -- Why two steps are refused: the first is none, the second is none, the mask stops one of them.
@@ -81,7 +86,7 @@ module _ (d : Design) (ps : List Pair) (ns : List ℕ) where
 
   pub data AnswerRefused (x y : Str) (Is : Str → Type 0) (n : ℕ) : MaskFault → Type 0 where
     steps : {f : MaskFault} → BothRefused x y f → AnswerRefused x y Is n f
-    too_long : {z : Str} → Allowed x → Allowed y → Is z → min n step_limit < length z →
+    too_long : (z : Str) → Allowed x → Allowed y → Is z → min n step_limit < length z →
         AnswerRefused x y Is n (Inner (StepTooLong (told_length (length z))))
 
   -- All that is asked of a system with these transitions and this independence is answered so, and refused so.
@@ -120,3 +125,9 @@ module _ (d : Design) (ps : List Pair) (ns : List ℕ) where
         (back_answer t i x z n ≡ Ok None) ↔ NoneAnswered x z (λ y. LeftOf d y x z)
     pub back_refused : (x z : Str) (n : ℕ) (f : MaskFault) →
         (back_answer t i x z n ≡ Err f) ↔ AnswerRefused x z (λ y. LeftOf d y x z) n f
+
+-- of every system of the program that exists
+abbrev pub EverySystem : Type 0
+EverySystem = (m : Mask (Renaming TermsOrNet)) →
+    Possible (design_of m.system.system) (pairs_of m.system.pairs) (names_of m.names)
+    (transitions_of_system m) (independence_of_system m)
