@@ -20,7 +20,7 @@ use Rattle.frame.specs.Frames.FrameView.{setup, open_sheet, add, swap, withdraw,
 use Rattle.frame.specs.Reading.{frame_answer}
 use Rattle.server.specs.declared.server.Server.{Server}
 use Rattle.server.specs.Text.{refusal_line, call_text, print_text, text_limit}
-use Rattle.server.specs.Layered.{Layered, layered_of, layered_transitions, layered_independence}
+use Rattle.systems.specs.Layered.{Layered, layered_of, layered_transitions, layered_independence}
 use Rattle.server.specs.LayeredSetup.{layered_answer}
 
 -- the system, and the four sheets

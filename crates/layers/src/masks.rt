@@ -3,7 +3,7 @@ ghost use Rattle.std.specs.Prelude.{◌≡◌, Ok};
 ghost use Rattle.actions.specs.Contents.{names_of};
 ghost use Rattle.steps.specs.Answers.{both_answer};
 ghost use Rattle.layers.specs.Mask.{mask_transitions, mask_independence};
-ghost use Rattle.layers.specs.MaskLaws.{mask_laws};
+ghost use Rattle.layers.specs.Laws.MaskLaws.{mask_laws};
 
 use actions::names::Names;
 use steps::fault::MaskFault;

@@ -2,7 +2,7 @@
 ghost use Rattle.std.specs.Prelude.{◌≡◌};
 ghost use Rattle.actions.specs.Contents.{pairs_of};
 ghost use Rattle.layers.specs.Renaming.{renaming_transitions};
-ghost use Rattle.layers.specs.RenamingLaws.{renaming_laws};
+ghost use Rattle.layers.specs.Laws.RenamingLaws.{renaming_laws};
 
 use actions::pairs::Pairs;
 use steps::fault::MaskFault;
