@@ -1,3 +1,6 @@
 mod Stored
 mod Spelling
+mod Naming
 pub mod ByRules
+pub mod Places
+mod Answered

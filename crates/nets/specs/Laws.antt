@@ -23,7 +23,7 @@ use Rattle.nets.specs.Laws.Moves.{Sound, read_named, touched_narrow, never_apart
 use Rattle.nets.specs.Laws.Cases.{none_some}
 
 -- a string is read exactly if there is no place where it is not
-is_read : {X : Type 0} (p : Result X ℕ) → IsTrue (is_ok p) → (x : X) × (p ≡ Ok x)
+pub is_read : {X : Type 0} (p : Result X ℕ) → IsTrue (is_ok p) → (x : X) × (p ≡ Ok x)
 is_read (Ok x) h = (x, refl)
 is_read (Err k) h = absurd (false≢true h)
 
@@ -34,7 +34,7 @@ nowhere_bad : {X : Type 0} (p : Result X ℕ) → (result_err p ≡ None) ↔ (I
 nowhere_bad (Ok x) = (λ _. refl, λ _. refl)
 nowhere_bad (Err k) = (λ h. absurd (none_some (sym h)), λ h. absurd (false≢true h))
 
-stays : (e f : Event) (x : Str) {p q : Result Event ℕ} → p ≡ Ok e → q ≡ Ok f → IsTrue (apart_from e f) → rest_of x p q ≡ Some x
+pub stays : (e f : Event) (x : Str) {p q : Result Event ℕ} → p ≡ Ok e → q ≡ Ok f → IsTrue (apart_from e f) → rest_of x p q ≡ Some x
 stays e f x p q free = ap₂ (rest_of x) p q ∙ cond-true (apart_from e f) (Some x) None free
 
 never_left : (x : Str) (p : Result Event ℕ) → ((e : Event) → p ≡ Ok e → Sound e) → rest_of x p p ≡ None
