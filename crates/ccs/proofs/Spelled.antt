@@ -1,6 +1,7 @@
 -- What a list of terms or proofs has to do with the bytes that it was read from.
--- A byte goes before what is read behind it. Each one keeps that the list is as long as was due, is sound, and is spelled
--- by the string behind the byte that opened its first node; so by `holds` what is read at last is spelled by the string.
+-- A byte goes before what is read behind it. Each one keeps that the list is as long as was due, is sound, and is
+-- spelled by the string behind the byte that opened its first node. So, by `holds`, what is read at last is spelled by
+-- the string.
 use Rattle.std.proofs.Common.{◌≡◌, ℕ, zero, suc, Bool, true, ◌&&◌, List, [], ◌∷◌, ◌++◌, length, Some, None, Ok, Err, Option, Result, sym, refl, ap, ◌∙◌, subst, append_assoc, append-nil}
 use Rattle.steps.specs.Meaning.{Str}
 use Rattle.ccs.specs.declared.due.Due.{Due}
