@@ -1,5 +1,6 @@
 // Events of a net: what must hold before one, and what holds after it.
-ghost use Rattle.std.specs.Prelude.{◌≡◌, ℕ, ◌↔◌, Some, IsTrue};
+ghost use Rattle.std.specs.Prelude.{◌≡◌, ℕ, ◌↔◌, Some, IsTrue, OnOk, IfErr};
+ghost use Rattle.nets.specs.Conditions.{IsProper, HasFault};
 ghost use Rattle.nets.specs.Events.{event_fault, add_answer};
 ghost use Rattle.nets.specs.Firing.{conditions, fire, apart_from, Fires, Apart};
 
@@ -70,9 +71,11 @@ impl Event {
         self.conditions() & other.conditions() == 0
     }
 
-    // Whether a net may have the event, or what is wrong with it.
+    // Whether a net may have the event, or the first thing that is wrong with it.
     pub fn check(self) -> Result<(), EventFault>
-        ensures { result ≡ add_answer (event_fault self) }
+        ensures answer { result ≡ add_answer (event_fault self) }
+        ensures proper { OnOk result (IsProper self) }
+        ensures faulty { IfErr result (λ fault. HasFault self fault) }
     {
         if !is_action(self.action) {
             return Err(EventFault::NoAction);

@@ -34,10 +34,10 @@ bit_of_xor a b k =
     ap (λ (n : ℕ). n % 2) (xor_shr a b k)
     ∙ odd_sum (bit_xor (a / 2 ^ k) (b / 2 ^ k)) (bit_and (a / 2 ^ k) (b / 2 ^ k)) (a / 2 ^ k) (b / 2 ^ k) (xor_add_and (a / 2 ^ k) (b / 2 ^ k))
 
-bit_half : (a k : ℕ) → bit (a / 2) k ≡ bit a (suc k)
+pub bit_half : (a k : ℕ) → bit (a / 2) k ≡ bit a (suc k)
 bit_half a k = ap (λ (n : ℕ). n % 2) (shr-shr a 1 k ∙ ap (λ (j : ℕ). a / 2 ^ j) (one-add k))
 
-half_below : (n a : ℕ) → a < 2 ^ suc n → a / 2 < 2 ^ n
+pub half_below : (n a : ℕ) → a < 2 ^ suc n → a / 2 < 2 ^ n
 half_below n a h = omega (arith, pow-suc 2 n)
 
 -- two numbers of n bits are equal where their bits are

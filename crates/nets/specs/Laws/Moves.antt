@@ -37,10 +37,12 @@ sound_from e h =
     let apart0 : e.before ≡ 0 → ⊥ = eqb-false e.before 0 (not-true (e.before == 0) before) in
     record { low = ltb-true e.before (2 ^ 64) widths.0; high = ltb-true e.after (2 ^ 64) widths.1; some = omega arith }
 
-nth_sound : (es : List Event) (k : ℕ) (e : Event) → IsTrue (all_sound es) → slice_get es k ≡ Some e → Sound e
-nth_sound [] k e h n = absurd (none_some n)
-nth_sound (f ∷ es) zero e h n = subst Sound (some_same n) (sound_from f (and_parts (sound_event f) (all_sound es) h).0)
-nth_sound (f ∷ es) (suc k) e h n = nth_sound es k e (and_parts (sound_event f) (all_sound es) h).1 n
+pub sound_at : (es : List Event) (k : ℕ) (e : Event) → IsTrue (all_sound es) →
+    slice_get es k ≡ Some e → IsTrue (sound_event e)
+sound_at [] k e h n = absurd (none_some n)
+sound_at (f ∷ es) zero e h n =
+    subst (λ (g : Event). IsTrue (sound_event g)) (some_same n) (and_parts (sound_event f) (all_sound es) h).0
+sound_at (f ∷ es) (suc k) e h n = sound_at es k e (and_parts (sound_event f) (all_sound es) h).1 n
 
 -- what is known of a string that names an event
 pub record Named (x : Str) (e : Event) : Type 0 where
@@ -49,7 +51,7 @@ pub record Named (x : Str) (e : Event) : Type 0 where
 
 pub read_named : (es : List Event) → IsTrue (all_sound es) → (x : Str) (e : Event) → read_event es x ≡ Ok e → Named x e
 read_named es h [] e r = absurd (err_ok r)
-read_named es h (k ∷ x) e r = found_named (slice_get es k) x r (nth_sound es k e h)
+read_named es h (k ∷ x) e r = found_named (slice_get es k) x r (λ n. sound_from e (sound_at es k e h n))
   where
     found_named : (o : Option Event) (x : Str) {k : ℕ} {e : Event} → lone_event o x ≡ Ok e → (o ≡ Some e → Sound e) → Named (k ∷ x) e
     found_named None x r s = absurd (err_ok r)
