@@ -23,8 +23,8 @@ some_bit zero s h k = absurd (omega arith)
 some_bit (suc n) s h k =
     ⊎_elim
     (λ low.
-      let rest = some_bit n (s / 2) (half_below n s h) (omega arith) in
-      (suc rest.0, omega (arith, rest.1), sym (bit_half s rest.0) ∙ rest.2))
+    let rest = some_bit n (s / 2) (half_below n s h) (omega arith) in
+    (suc rest.0, omega (arith, rest.1), sym (bit_half s rest.0) ∙ rest.2))
     (λ high. (0, omega arith, omega arith))
     (cases_lt (s % 2) 1)
 

@@ -1,6 +1,7 @@
 -- Which events a net takes, and what is wrong with any other. Assumes nothing.
 use Rattle.std.specs.Prelude.{ℕ, ◌^◌, Bool, true, not, ◌&&◌, List, [], ◌∷◌, ◌++◌, length, is_some, Some, None, Ok, Err, Option, Result, ◌==◌, bit_and, nat_lt, if◌then◌else◌}
 use Rattle.actions.specs.Action.{is_action}
+use Rattle.nets.specs.declared.net.TheConstants.{EVENT_LIMIT}
 use Rattle.nets.specs.declared.event.Event.{Event}
 use Rattle.nets.specs.declared.event.EventFault.{EventFault}
 use Rattle.nets.specs.declared.event.EventFault.TheVariants.{Full, NoAction, EmptySet, SharedCondition}
@@ -31,7 +32,7 @@ all_sound (e ∷ es) = sound_event e && all_sound es
 
 -- the most events that a net has
 abbrev pub event_limit : ℕ
-event_limit = 48
+event_limit = EVENT_LIMIT
 
 -- why a net of these events does not take one more, if so
 abbrev pub add_fault : List Event → Event → Option EventFault

@@ -39,10 +39,8 @@ impl Net {
     // none, and no net takes one that `Event::check` finds fault with.
     pub fn add(&mut self, event: Event) -> Result<(), EventFault>
         ensures answer { result ≡ add_answer (add_fault (events_of self.old) event) }
-        ensures events {
-            events_of self.new
-            ≡ events_after (add_fault (events_of self.old) event) (events_of self.old) event
-        }
+        ensures events { events_of self.new
+            ≡ events_after (add_fault (events_of self.old) event) (events_of self.old) event }
         ensures refused { IsFalse (is_ok result) → self.new ≡ self.old }
         ensures full { (result ≡ Err Full) ↔ (event_limit ≤ length (events_of self.old)) }
         ensures proper { OnOk result (IsProper event) }

@@ -3,31 +3,21 @@ ghost use Rattle.std.specs.Prelude.{◌≡◌, ℕ, ◌≤◌, ◌↔◌, true, 
 ghost use Rattle.byte_strings.specs.Buffer.{count, buffer_after, count_some, buffer_after_some};
 ghost use Rattle.steps.specs.Meaning.{Str};
 ghost use Rattle.steps.specs.Beginning.{LongestBeginning};
-ghost use Rattle.steps.specs.Answers.{state_answer, step_answer, label_answer, next_answer, independent_answer, left_answer, back_answer, fitting_state};
+ghost use Rattle.steps.specs.Answers.{state_answer, step_answer, label_answer, next_answer, independent_answer, left_answer, back_answer};
 ghost use Rattle.steps.specs.declared.fault.MaskFault.TheVariants.{Inner};
 ghost use Rattle.steps.specs.declared.fault.SystemFault.TheVariants.{NoState, NoStep, Impossible};
 ghost use Rattle.nets.specs.declared.event.Event.{Event};
 ghost use Rattle.nets.specs.Contents.{events_of};
-ghost use Rattle.nets.specs.Marking.{bytes_of};
 ghost use Rattle.nets.specs.System.{net_transitions, net_independence};
 ghost use Rattle.nets.specs.Rules.{IsMarking, IsEvent, Names, NetGoes, Stuck, NetLeaves, StepPlace};
 ghost use Rattle.nets.specs.Laws.{net_laws};
 
-use crate::marking::read;
+use crate::marking;
 use crate::net::Net;
-use byte_strings::buffer;
 use steps::answer::put_step_if;
 use steps::fault::{MaskFault, SystemFault};
 use steps::label::Label;
 use steps::system::StepSystem;
-
-// Writes a marking over the front of the buffer, and answers its length.
-fn put_marking(marking: u64, out: &mut [u8]) -> Result<usize, MaskFault>
-    ensures answer { result ≡ count (fitting_state (bytes_of marking) (length out.old)) }
-    ensures buffer { out.new ≡ buffer_after (fitting_state (bytes_of marking) (length out.old)) out.old }
-{
-    buffer::copy(&marking.to_be_bytes(), out).ok_or(MaskFault::Inner(SystemFault::StateTooLong(8)))
-}
 
 impl StepSystem for Net {
     ghost transitions = { λ n. net_transitions (events_of n) };
@@ -42,7 +32,7 @@ impl StepSystem for Net {
         ensures markings { IsOk result ↔ IsMarking state.now }
         ensures place { (p : ℕ) → result ≡ Err (Inner (NoState p)) → LongestBeginning IsMarking state.now p }
     {
-        read(state)?;
+        marking::read(state)?;
         Ok(())
     }
 
@@ -73,11 +63,11 @@ impl StepSystem for Net {
         ensures stuck { (result ≡ Err (Inner (Impossible 0))) ↔ Stuck (events_of self.now) state.now step.now }
     {
         let event = self.event(step)?;
-        let marking = read(state)?;
+        let marking = marking::read(state)?;
         let after = event
             .fire(marking)
             .ok_or(MaskFault::Inner(SystemFault::Impossible(0)))?;
-        put_marking(after, out)
+        marking::put(after, out)
     }
 
     fn independent(&self, x: &[u8], y: &[u8]) -> Result<bool, MaskFault>
