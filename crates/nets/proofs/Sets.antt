@@ -1,4 +1,5 @@
--- A set of conditions, as a number, has one where the number is not 0; so what `check` computes is what is asked of an event.
+-- A set of conditions, as a number, has one where the number is not 0; so what `check` computes is what is asked of an
+-- event.
 use Rattle.std.proofs.Common.{◌≡◌, ℕ, zero, suc, ◌/◌, ◌%◌, ◌^◌, ◌<◌, Bool, true, false, not, ◌&&◌, eqb, List, None, Some, Ok, Err, Option, Result, is_some, ltb, subst, refl, sym, ap, ◌∙◌, ⊎_elim, arith, IsTrue, IsFalse, cond}
 use Rattle.std.proofs.lemmas.Bool.{cases_lt, cases_Bool, and_parts, and_from, eqb-true, eqb-false, not-true, ltb-true, false≢true}
 use Rattle.std.specs.Int.Bits.{bit_and}
@@ -53,12 +54,14 @@ module _ (e : Event) (low : e.before < 2 ^ 64) (high : e.after < 2 ^ 64) where
         has_one e.after high (eqb-false e.after 0 (not-true (eqb e.after 0) parts.1)),
       )
 
-  empty : IsTrue (is_action e.action) → (b a : Bool) → eqb e.before 0 ≡ b → eqb e.after 0 ≡ a → IsFalse (not b && not a) → HasFault e EmptySet
+  empty : IsTrue (is_action e.action) → (b a : Bool) → eqb e.before 0 ≡ b → eqb e.after 0 ≡ a → IsFalse (not b && not a)
+      → HasFault e EmptySet
   empty action true a p q h = HasFault.none_before action (has_none e.before (eqb-true e.before 0 p))
   empty action false true p q h = HasFault.none_after action (has_none e.after (eqb-true e.after 0 q))
   empty action false false p q h = absurd (cc)
 
-  verdict_by : (a b c : Bool) → is_action e.action ≡ a → has_conditions e ≡ b → shares_none e ≡ c → Verdict e (cond a (cond b (cond c None (Some SharedCondition)) (Some EmptySet)) (Some NoAction))
+  verdict_by : (a b c : Bool) → is_action e.action ≡ a → has_conditions e ≡ b → shares_none e ≡ c
+      → Verdict e (cond a (cond b (cond c None (Some SharedCondition)) (Some EmptySet)) (Some NoAction))
   verdict_by true true true p q r =
       let sets = filled q in
       record {

@@ -11,7 +11,8 @@ use byte_strings::list::Blank;
 #[derive(Clone, Copy)]
 pub struct Event {
     // 0 is silent, 0x01 to 0x3F are names, 0x41 to 0x7F are their co-names.
-    // A byte and no enum: an event is made of any and then checked, so that a net can say what is wrong with it.
+    // A byte and no enum: an event is made of any and then checked, so that a net can say what is
+    // wrong with it.
     pub action: u8,
     pub before: u64,
     pub after: u64,

@@ -9,7 +9,8 @@ ghost use Rattle.nets.specs.System.{marking_answer};
 use byte_strings::buffer;
 use steps::fault::{MaskFault, SystemFault};
 
-// The marking that a state stands for. Else the place where it ends too early, or behind eight bytes.
+// The marking that a state stands for. Else the place: where it ends too early, or behind eight
+// bytes.
 pub(crate) fn read(state: &[u8]) -> Result<u64, MaskFault>
     ensures { result ≡ marking_answer (read_marking state.now) }
 {
@@ -24,7 +25,8 @@ pub(crate) fn read(state: &[u8]) -> Result<u64, MaskFault>
 // Writes a marking over the front of the buffer, and answers its length.
 pub(crate) fn put(marking: u64, out: &mut [u8]) -> Result<usize, MaskFault>
     ensures answer { result ≡ count (fitting_state (bytes_of marking) (length out.old)) }
-    ensures buffer { out.new ≡ buffer_after (fitting_state (bytes_of marking) (length out.old)) out.old }
+    ensures buffer { out.new
+        ≡ buffer_after (fitting_state (bytes_of marking) (length out.old)) out.old }
 {
     buffer::copy(&marking.to_be_bytes(), out).ok_or(MaskFault::Inner(SystemFault::StateTooLong(8)))
 }

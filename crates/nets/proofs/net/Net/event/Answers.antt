@@ -10,4 +10,5 @@ pub returns-clause-proper : goal.returns-clause-proper
 returns-clause-proper c =
     let es = events_of c.args.self.now in
     let answer : Ok c.in_ok-event.event.now ≡ event_answer (read_event es c.args.step.now) = grind (arith, elements) in
-    named_proper es c.args.self.now.sound c.args.step.now c.in_ok-event.event.now (answer_names es c.args.step.now c.in_ok-event.event.now answer)
+    named_proper es c.args.self.now.sound c.args.step.now c.in_ok-event.event.now
+    (answer_names es c.args.step.now c.in_ok-event.event.now answer)
