@@ -1,4 +1,5 @@
--- Questions to the meaning of terms and of nets, with their answers, which anyone can work out by hand. Assumes nothing.
+-- Questions to the meaning of terms and of nets, with their answers, which anyone can work out by
+-- hand. Assumes nothing.
 use Rattle.std.specs.Prelude.{◌≡◌, Option, [], ◌∷◌, Some, None, Ok, IsTrue}
 use Rattle.steps.specs.Meaning.{Str, Transitions}
 use Rattle.nets.specs.System.{net_transitions}
@@ -31,8 +32,8 @@ pub record Dependent (x y : Str) : Type 0 where
   pub none_left_of_second : left y x ≡ None
 
 pub record Worked : Type 0 where
-  -- The right branch is chosen by the left side's move: what is left of the right side's has no choice
-  -- node any more, and back puts it on again.
+  -- The right branch is chosen by the left side's move: what is left of the right side's has no
+  -- choice node any more, and back puts it on again.
   pub choice_made :
     left (0x15 ∷ 0x12 ∷ 0x10 ∷ 0x02 ∷ []) (0x15 ∷ 0x11 ∷ 0x10 ∷ 0x01 ∷ [])
     ≡ Some (0x12 ∷ 0x10 ∷ 0x02 ∷ [])
