@@ -113,7 +113,7 @@ module _ (ns : List ℕ) (names : all_names ns ≡ true) (t : Transitions) where
           by_test x
           (λ l e. shaped answer g (λ p h. h.0) (λ s u. inl (s, u, inl l)))
           (λ other e. by_test y (λ l f. shaped answer g (λ p h. h.0) (λ s u. inl (s, u, inr l)))
-              (λ none f. inr (sym (passed e f) ∙ g)))
+          (λ none f. inr (sym (passed e f) ∙ g)))
 
       from : (Shaped ns t x × Shaped ns t y × (Listed ns t x ⊎ Listed ns t y)) ⊎ (inside ≡ Err Masked)
           → answer ≡ Err Masked
@@ -123,7 +123,7 @@ module _ (ns : List ℕ) (names : all_names ns ≡ true) (t : Transitions) where
           by_test x
           (λ l e. shaped inside g (λ p h. h.1) (λ s u. stopped s u (inl e)))
           (λ other e. by_test y (λ l f. shaped inside g (λ p h. h.1) (λ s u. stopped s u (inr f)))
-              (λ none f. passed e f ∙ g))
+          (λ none f. passed e f ∙ g))
 
   -- what is asked of one step, and then r inside and r' of the mask
   of_one : {A : Type 0} (x : Str) (r r' : Result A MaskFault) → (stops ns t x ≡ false → r' ≡ r) →
@@ -143,17 +143,19 @@ module _ (ns : List ℕ) (names : all_names ns ≡ true) (t : Transitions) where
   of_both {A} x y r r' same =
       on_both x y _ _
       (λ e f. ap₂ (λ h k. first (step_refusal t x)
-          (first (step_refusal t y)
-          (first (hidden_refusal (tested t h) x) (first (hidden_refusal (tested t k) y) r')))) e f
-        ∙ ap (both_answer t x y) (same e f))
+      (first (step_refusal t y)
+      (first (hidden_refusal (tested t h) x) (first (hidden_refusal (tested t k) y) r')))) e f
+      ∙ ap (both_answer t x y) (same e f))
       (λ s u which. ap₂
-          (λ o q. first o
-          (first q (first (hidden_refusal (mask_transitions ns t) x)
-          (first (hidden_refusal (mask_transitions ns t) y) r')))) (step_shaped t x s) (step_shaped t y u)
-          ∙ either which)
+      (λ o q. first o
+      (first q (first (hidden_refusal (mask_transitions ns t) x)
+      (first (hidden_refusal (mask_transitions ns t) y) r')))) (step_shaped t x s) (step_shaped t y u)
+      ∙ either which)
       (λ p b. (told_after _ _ _ (no_step_told t x p b), told_after _ _ _ (no_step_told t x p b)))
-      (λ p s b. (told_second _ _ _ _ (step_shaped t x s) (no_step_told t y p b),
-          told_second _ _ _ _ (step_shaped t x s) (no_step_told t y p b)))
+      (λ p s b. (
+        told_second _ _ _ _ (step_shaped t x s) (no_step_told t y p b),
+        told_second _ _ _ _ (step_shaped t x s) (no_step_told t y p b),
+      ))
     where
       behind : (b : Bool) (k : Option MaskFault) → k ≡ Some Masked
           → first (hidden_refusal (record t { hidden = λ _. b }) x) (first k r') ≡ Err Masked

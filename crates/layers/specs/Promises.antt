@@ -34,8 +34,8 @@ pub record MaskedSteps (ns : List ℕ) (t : Transitions) (i : Independence) : Ty
   pub rests : (x y z : Str) →
       ((mask_independence ns t i).left x y ≡ Some z)
       ↔ ((i.left x y ≡ Some z)
-        × (ShowsListed ns (t.label x).action → ⊥)
-        × (ShowsListed ns (t.label y).action → ⊥))
+      × (ShowsListed ns (t.label x).action → ⊥)
+      × (ShowsListed ns (t.label y).action → ⊥))
   pub states : (mask_transitions ns t).state ≡ t.state
   pub labels : (mask_transitions ns t).label ≡ t.label
 
@@ -62,8 +62,8 @@ module _ (ns : List ℕ) (t : Transitions) where
       (inside answer : Result A MaskFault) : Type 0 where
     pub unlisted : (Listed x → ⊥) → (Listed y → ⊥) → answer ≡ inside
     pub masked :
-      (answer ≡ Err Masked)
-      ↔ ((Shaped x × Shaped y × (Listed x ⊎ Listed y)) ⊎ (inside ≡ Err Masked))
+        (answer ≡ Err Masked)
+        ↔ ((Shaped x × Shaped y × (Listed x ⊎ Listed y)) ⊎ (inside ≡ Err Masked))
     pub no_first : (p : ℕ) → t.bad_step x ≡ Some p → answer ≡ Err (Inner (NoStep p))
     pub no_second : (p : ℕ) → Shaped x → t.bad_step y ≡ Some p → answer ≡ Err (Inner (NoStep p))
 

@@ -26,12 +26,10 @@ impl<S: StepSystem> Mask<S> {
     pub fn over(system: S, names: Names) -> Mask<S>
         ensures system { result.system ≡ system }
         ensures names { result.names ≡ names }
-        ensures answers {
-            MaskAnswers (names_of names) (S.transitions system) (S.independence system)
-                (mask_transitions (names_of result.names) (S.transitions result.system))
-                (mask_independence (names_of result.names) (S.transitions result.system)
-                    (S.independence result.system))
-        }
+        ensures answers { MaskAnswers (names_of names) (S.transitions system) (S.independence system)
+            (mask_transitions (names_of result.names) (S.transitions result.system))
+            (mask_independence (names_of result.names) (S.transitions result.system)
+            (S.independence result.system)) }
     {
         Mask { system, names }
     }
@@ -39,11 +37,9 @@ impl<S: StepSystem> Mask<S> {
     // Does the mask let both steps through? A string that is no step is sent back before one that
     // is masked.
     fn both_shown(&self, x: &[u8], y: &[u8]) -> Result<(), MaskFault>
-        ensures {
-            result
+        ensures { result
             ≡ both_answer (mask_transitions (names_of self.now.names) (S.transitions self.now.system))
-                x.now y.now (Ok tt)
-        }
+            x.now y.now (Ok tt) }
     {
         let first = self.step(x);
         if let Err(MaskFault::Inner(fault)) = first {
@@ -57,14 +53,10 @@ impl<S: StepSystem> Mask<S> {
 impl<S: StepSystem> StepSystem for Mask<S> {
     ghost transitions = { λ m. mask_transitions (names_of m.names) (S.transitions m.system) };
 
-    ghost independence = {
-        λ m. mask_independence (names_of m.names) (S.transitions m.system) (S.independence m.system)
-    };
+    ghost independence = { λ m. mask_independence (names_of m.names) (S.transitions m.system) (S.independence m.system) };
 
-    ghost lawful = {
-        λ m. mask_laws (names_of m.names) (S.transitions m.system) (S.independence m.system)
-            (S.lawful m.system)
-    };
+    ghost lawful = { λ m. mask_laws (names_of m.names) (S.transitions m.system) (S.independence m.system)
+        (S.lawful m.system) };
 
     fn state(&self, state: &[u8]) -> Result<(), MaskFault> {
         self.system.state(state)

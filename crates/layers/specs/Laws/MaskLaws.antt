@@ -107,7 +107,7 @@ module _ (names : List ℕ) (t : Transitions) (i : Independence) (l : Laws t i) 
       let h = left_from x y x' j in
       let g = left_from y x y' k in
       let d = l.diamond a b c x y x' y' (move_from a x b p).1
-          (move_from a y c q).1 h.inside g.inside in
+      (move_from a y c q).1 h.inside g.inside in
       (d.0, move_to b y' d.0 (rest_shown y x y' g) d.1, move_to c x' d.0 (rest_shown x y x' h) d.2)
 
   left_step : (x y z : Str) → (mask_independence names t i).left x y ≡ Some z
@@ -127,14 +127,14 @@ module _ (names : List ℕ) (t : Transitions) (i : Independence) (l : Laws t i) 
           let s = shown_two (stops names t x) (stops names t z) (i.back x z) y e in
           let inside = (l.origin x y z).0 s.2 in
           left_to y x z
-              (record { first = sym (same_stop y x z inside) ∙ s.1; second = s.0; inside = inside })
+          (record { first = sym (same_stop y x z inside) ∙ s.1; second = s.0; inside = inside })
 
       from : (mask_independence names t i).left y x ≡ Some z
           → (mask_independence names t i).back x z ≡ Some y
       from e =
           let h = left_from y x z e in
           two_shown (stops names t x) (stops names t z) (i.back x z) y h.second (rest_shown y x z h)
-              ((l.origin x y z).1 h.inside)
+          ((l.origin x y z).1 h.inside)
 
   origin_possible : (a b c x y z : Str) → (mask_transitions names t).next a x ≡ Ok b
       → (mask_transitions names t).next b z ≡ Ok c → (mask_independence names t i).left y x ≡ Some z
