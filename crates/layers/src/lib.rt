@@ -19,7 +19,8 @@ pub use renamings::Renaming;
 // What a mask takes away, what a renaming replaces, and that over any step system both are step
 // systems. It has no code: it holds of the meanings that the impls are proved to have.
 pub fn layers_are_step_systems()
-    ensures masks { (names : Names) (t : Transitions) (i : Independence) → MaskedSteps (names_of names) t i }
+    ensures masks { (names : Names) (t : Transitions) (i : Independence) →
+        MaskedSteps (names_of names) t i }
     ensures mask_answers { (names : Names) (t : Transitions) (i : Independence) →
         MaskAnswers (names_of names) t i
         (mask_transitions (names_of names) t) (mask_independence (names_of names) t i) }

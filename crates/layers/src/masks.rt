@@ -26,7 +26,8 @@ impl<S: StepSystem> Mask<S> {
     pub fn over(system: S, names: Names) -> Mask<S>
         ensures system { result.system ≡ system }
         ensures names { result.names ≡ names }
-        ensures answers { MaskAnswers (names_of names) (S.transitions system) (S.independence system)
+        ensures answers { MaskAnswers (names_of names)
+            (S.transitions system) (S.independence system)
             (mask_transitions (names_of result.names) (S.transitions result.system))
             (mask_independence (names_of result.names) (S.transitions result.system)
             (S.independence result.system)) }
@@ -38,7 +39,8 @@ impl<S: StepSystem> Mask<S> {
     // is masked.
     fn both_shown(&self, x: &[u8], y: &[u8]) -> Result<(), MaskFault>
         ensures { result
-            ≡ both_answer (mask_transitions (names_of self.now.names) (S.transitions self.now.system))
+            ≡ both_answer
+            (mask_transitions (names_of self.now.names) (S.transitions self.now.system))
             x.now y.now (Ok tt) }
     {
         let first = self.step(x);
@@ -53,10 +55,11 @@ impl<S: StepSystem> Mask<S> {
 impl<S: StepSystem> StepSystem for Mask<S> {
     ghost transitions = { λ m. mask_transitions (names_of m.names) (S.transitions m.system) };
 
-    ghost independence = { λ m. mask_independence (names_of m.names) (S.transitions m.system) (S.independence m.system) };
+    ghost independence = { λ m. mask_independence (names_of m.names)
+        (S.transitions m.system) (S.independence m.system) };
 
-    ghost lawful = { λ m. mask_laws (names_of m.names) (S.transitions m.system) (S.independence m.system)
-        (S.lawful m.system) };
+    ghost lawful = { λ m. mask_laws (names_of m.names)
+        (S.transitions m.system) (S.independence m.system) (S.lawful m.system) };
 
     fn state(&self, state: &[u8]) -> Result<(), MaskFault> {
         self.system.state(state)

@@ -23,7 +23,8 @@ impl<S: StepSystem> Renaming<S> {
     pub fn over(system: S, pairs: Pairs) -> Renaming<S>
         ensures system { result.system ≡ system }
         ensures pairs { result.pairs ≡ pairs }
-        ensures answers { RenamingAnswers (pairs_of pairs) (S.transitions system) (S.independence system)
+        ensures answers { RenamingAnswers (pairs_of pairs)
+            (S.transitions system) (S.independence system)
             (renaming_transitions (pairs_of result.pairs) (S.transitions result.system))
             (S.independence result.system) }
     {
@@ -36,8 +37,8 @@ impl<S: StepSystem> StepSystem for Renaming<S> {
 
     ghost independence = { λ r. S.independence r.system };
 
-    ghost lawful = { λ r. renaming_laws (pairs_of r.pairs) (S.transitions r.system) (S.independence r.system)
-        (S.lawful r.system) };
+    ghost lawful = { λ r. renaming_laws (pairs_of r.pairs)
+        (S.transitions r.system) (S.independence r.system) (S.lawful r.system) };
 
     fn state(&self, state: &[u8]) -> Result<(), MaskFault> {
         self.system.state(state)

@@ -27,7 +27,7 @@ one_longest Is s p q h g =
     ⊎_elim
     (λ below. absurd (h.longest q g.begins.0 below g.within g.begins.1))
     (λ above. ⊎_elim (λ below. absurd (g.longest p h.begins.0 below h.within h.begins.1))
-        (λ low. omega (arith, above, low)) (cases_lt q p))
+    (λ low. omega (arith, above, low)) (cases_lt q p))
     (cases_lt p q)
 
 -- a place is told exactly where it is the place, if any that is told is one, there is one at most, and none of what is

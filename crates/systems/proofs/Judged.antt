@@ -134,7 +134,7 @@ module _ (d : Design) (ps : List Pair) (ns : List ℕ) (t : Transitions) (i : In
   by_step x holds fails =
       by_shape x
       (λ e. by_mask x (λ h. let w = (r.within_step x).0 e in fails Masked (StepRefused.masked w ((r.stopped x w).0 h)))
-          (λ h. holds (allowed x e h)))
+      (λ h. holds (allowed x e h)))
       (λ p e. fails (Inner (NoStep p)) (StepRefused.no_step ((r.step_place x p).0 e)))
 
   step_allowed : {A : Type 0} (x : Str) (rest : Result A MaskFault) → Allowed d ps ns x
@@ -167,8 +167,11 @@ module _ (d : Design) (ps : List Pair) (ns : List ℕ) (t : Transitions) (i : In
   labels_exactly : (x : Str) (l : Label) → (label_answer t x ≡ Ok l) ↔ (Allowed d ps ns x × ShownAs d ps ns x l.action)
   labels_exactly x l = (
     λ e. by_step x
-        (λ a. (a, (r.shows x l.action a.step).0
-            (ap (λ l. l.action) (ok_same (t.label x) l (sym (step_allowed x (Ok (t.label x)) a) ∙ e)))))
+        (λ a. (
+          a,
+          (r.shows x l.action a.step).0
+              (ap (λ l. l.action) (ok_same (t.label x) l (sym (step_allowed x (Ok (t.label x)) a) ∙ e))),
+        ))
         (λ f s. not_both _ l f e (step_refused x (Ok (t.label x)) f s)),
     λ h. step_allowed x (Ok (t.label x)) h.0
         ∙ ap (λ c. Ok (record { action = c })) ((r.shows x l.action h.0.step).1 h.1),
@@ -192,7 +195,7 @@ module _ (d : Design) (ps : List Pair) (ns : List ℕ) (t : Transitions) (i : In
     λ e. by_state s
         (λ n. not_both _ tt f (behind _ _ (state_shaped t s n)) e)
         (λ p n. refused_as (StateRefused d ps ns s) _ _ f (StateRefused.no_state ((r.state_place s p bytes).0 n))
-            (at_once _ _ _ (no_state_told t s p n)) e),
+        (at_once _ _ _ (no_state_told t s p n)) e),
     λ h. at_once _ _ _ (state_refused s f bytes h),
   )
 
@@ -236,18 +239,22 @@ module _ (d : Design) (ps : List Pair) (ns : List ℕ) (t : Transitions) (i : In
       fits c al e m h short =
           let same : c ≡ b = ok_same c b (sym (next_moved a x n c al e m ∙ state_fits c n short) ∙ h) in
           subst (Accepted d ps ns a x n) same
-          (record { step = al; state = (r.within_state a).0 e; moves = (r.moves a x c (shown_of x al)).0 m;
-              fits = short })
+          (record {
+            step = al;
+            state = (r.within_state a).0 e;
+            moves = (r.moves a x c (shown_of x al)).0 m;
+            fits = short;
+          })
 
       to : next_answer t a x n ≡ Ok b → Accepted d ps ns a x n b
       to h =
           by_step x
           (λ al. by_state a
-            (λ e. by_move a x
-              (λ c m. by_length (length c) (min n state_limit) (fits c al e m h)
-                (λ long. not_both _ b _ h (next_moved a x n c al e m ∙ state_too_long c n long)))
-              (λ p m. not_both _ b _ h (next_stuck a x n p al e m)))
-            (λ p e. not_both _ b _ h (next_no_state a x n p al e)))
+          (λ e. by_move a x
+          (λ c m. by_length (length c) (min n state_limit) (fits c al e m h)
+          (λ long. not_both _ b _ h (next_moved a x n c al e m ∙ state_too_long c n long)))
+          (λ p m. not_both _ b _ h (next_stuck a x n p al e m)))
+          (λ p e. not_both _ b _ h (next_no_state a x n p al e)))
           (λ f s. not_both _ b _ h (next_refused_step a x n f s))
 
       from : Accepted d ps ns a x n b → next_answer t a x n ≡ Ok b
@@ -267,25 +274,25 @@ module _ (d : Design) (ps : List Pair) (ns : List ℕ) (t : Transitions) (i : In
       to h =
           by_step x
           (λ al. by_state a
-            (λ e. by_move a x
-              (λ c m. by_length (length c) (min n state_limit)
-                (λ short. not_both _ c f (next_moved a x n c al e m ∙ state_fits c n short) h)
-                (λ long. told _
-                    (Refused.too_long c al ((r.within_state a).0 e) ((r.moves a x c (shown_of x al)).0 m) long)
-                  (next_moved a x n c al e m ∙ state_too_long c n long) h))
-              (λ p m.
-                let w = (r.within_state a).0 e in
-                let k = (r.stuck a x p (shown_of x al) w al.step).0 m in
-                told _ (Refused.not_possible al w k.0 k.1) (next_stuck a x n p al e m) h))
-            (λ p e. told _ (Refused.state al (StateRefused.no_state ((r.state_place a p bytes).0 e)))
-                (next_no_state a x n p al e) h))
+          (λ e. by_move a x
+          (λ c m. by_length (length c) (min n state_limit)
+          (λ short. not_both _ c f (next_moved a x n c al e m ∙ state_fits c n short) h)
+          (λ long. told _
+          (Refused.too_long c al ((r.within_state a).0 e) ((r.moves a x c (shown_of x al)).0 m) long)
+          (next_moved a x n c al e m ∙ state_too_long c n long) h))
+          (λ p m.
+          let w = (r.within_state a).0 e in
+          let k = (r.stuck a x p (shown_of x al) w al.step).0 m in
+          told _ (Refused.not_possible al w k.0 k.1) (next_stuck a x n p al e m) h))
+          (λ p e. told _ (Refused.state al (StateRefused.no_state ((r.state_place a p bytes).0 e)))
+          (next_no_state a x n p al e) h))
           (λ g s. told g (Refused.step s) (next_refused_step a x n g s) h)
 
       from : (g : MaskFault) → Refused d ps ns a x n g → next_answer t a x n ≡ Err g
       from g (Refused.step s) = next_refused_step a x n g s
       from g (Refused.state al no_state) =
           step_allowed x (first (state_refusal t a) (move_answer (t.next a x) n)) al
-              ∙ at_once _ _ _ (state_refused a g bytes no_state)
+          ∙ at_once _ _ _ (state_refused a g bytes no_state)
       from _ (Refused.not_possible {p} al w nowhere k) =
           next_stuck a x n p al ((r.within_state a).1 w) ((r.stuck a x p (shown_of x al) w al.step).1 (nowhere, k))
       from _ (Refused.too_long b al w m long) =
@@ -297,13 +304,13 @@ module _ (d : Design) (ps : List Pair) (ns : List ℕ) (t : Transitions) (i : In
   by_both x y holds fails =
       by_shape x
       (λ e. by_shape y
-        (λ g. let w = (r.within_step x).0 e in
-          let v = (r.within_step y).0 g in
-          by_mask x
-          (λ h. fails Masked (BothRefused.masked w v (inl ((r.stopped x w).0 h))))
-          (λ h. by_mask y (λ k. fails Masked (BothRefused.masked w v (inr ((r.stopped y v).0 k))))
-              (λ k. holds (allowed x e h) (allowed y g k))))
-        (λ p g. fails (Inner (NoStep p)) (BothRefused.no_second ((r.within_step x).0 e) ((r.step_place y p).0 g))))
+      (λ g. let w = (r.within_step x).0 e in
+      let v = (r.within_step y).0 g in
+      by_mask x
+      (λ h. fails Masked (BothRefused.masked w v (inl ((r.stopped x w).0 h))))
+      (λ h. by_mask y (λ k. fails Masked (BothRefused.masked w v (inr ((r.stopped y v).0 k))))
+      (λ k. holds (allowed x e h) (allowed y g k))))
+      (λ p g. fails (Inner (NoStep p)) (BothRefused.no_second ((r.within_step x).0 e) ((r.step_place y p).0 g))))
       (λ p e. fails (Inner (NoStep p)) (BothRefused.no_first ((r.step_place x p).0 e)))
 
   both_allowed : {A : Type 0} (x y : Str) (rest : Result A MaskFault) → Allowed d ps ns x → Allowed d ps ns y
@@ -317,7 +324,7 @@ module _ (d : Design) (ps : List Pair) (ns : List ℕ) (t : Transitions) (i : In
       behind _ _ (step_shaped t x ((r.within_step x).1 w)) ∙ at_once _ _ _ (no_step_told t y p ((r.step_place y p).1 n))
   both_refused {A} x y rest _ (BothRefused.masked w v which) =
       behind _ _ (step_shaped t x ((r.within_step x).1 w)) ∙ behind _ _ (step_shaped t y ((r.within_step y).1 v))
-          ∙ either which
+      ∙ either which
     where
       second : (h : Bool) (k : Option MaskFault) → k ≡ Some Masked
           → first {A = A} (hidden_refusal (record t { hidden = λ _. h }) x) (first k rest) ≡ Err Masked
@@ -360,8 +367,8 @@ module _ (d : Design) (ps : List Pair) (ns : List ℕ) (t : Transitions) (i : In
   independents_exactly x y = (
     λ h. by_both x y
         (λ a b. by_left x y
-          (λ z e. (a, b, (z, (left_of x y z a b).0 e)))
-          (λ e. bool_apart (sym h ∙ dependent_is x y a b e)))
+        (λ z e. (a, b, (z, (left_of x y z a b).0 e)))
+        (λ e. bool_apart (sym h ∙ dependent_is x y a b e)))
         (λ f s. not_both _ true f h (both_refused x y (Ok (is_some (i.left x y))) f s)),
     λ h. independent_is x y h.2.0 h.0 h.1 ((left_of x y h.2.0 h.0 h.1).1 h.2.1),
   )
@@ -372,8 +379,8 @@ module _ (d : Design) (ps : List Pair) (ns : List ℕ) (t : Transitions) (i : In
   dependents_exactly x y = (
     λ h. by_both x y
         (λ a b. by_left x y
-          (λ z e. bool_apart (sym (independent_is x y z a b e) ∙ h))
-          (λ e. (a, b, none_left x y a b e)))
+        (λ z e. bool_apart (sym (independent_is x y z a b e) ∙ h))
+        (λ e. (a, b, none_left x y a b e)))
         (λ f s. not_both _ false f h (both_refused x y (Ok (is_some (i.left x y))) f s)),
     λ h. by_left x y (λ z e. absurd (h.2 (z, (left_of x y z h.0 h.1).0 e))) (λ e. dependent_is x y h.0 h.1 e),
   )
@@ -410,12 +417,12 @@ module _ (d : Design) (ps : List Pair) (ns : List ℕ) (t : Transitions) (i : In
     answers_exactly z = (
       λ h. by_both x y
           (λ a b. by_answer
-            (λ w e. by_length (length w) (min n step_limit)
-              (λ short. subst (StepAnswered d ps ns x y Is n)
-                (some_same w z (ok_same (Some w) (Some z) (sym (some_is w a b e ∙ step_fits w n short) ∙ h)))
-                (record { first = a; second = b; is = (exactly w a b).0 e; fits = short }))
-              (λ long. not_both _ (Some z) _ h (some_is w a b e ∙ step_too_long w n long)))
-            (λ e. some_not_none z (ok_same (Some z) None (sym h ∙ none_is a b e))))
+          (λ w e. by_length (length w) (min n step_limit)
+          (λ short. subst (StepAnswered d ps ns x y Is n)
+          (some_same w z (ok_same (Some w) (Some z) (sym (some_is w a b e ∙ step_fits w n short) ∙ h)))
+          (record { first = a; second = b; is = (exactly w a b).0 e; fits = short }))
+          (λ long. not_both _ (Some z) _ h (some_is w a b e ∙ step_too_long w n long)))
+          (λ e. some_not_none z (ok_same (Some z) None (sym h ∙ none_is a b e))))
           (λ f s. not_both _ (Some z) f h (both_refused x y (fitting_step o n) f s)),
       λ h. some_is z h.first h.second ((exactly z h.first h.second).1 h.is) ∙ step_fits z n h.fits,
     )
@@ -424,10 +431,10 @@ module _ (d : Design) (ps : List Pair) (ns : List ℕ) (t : Transitions) (i : In
     nones_exactly = (
       λ h. by_both x y
           (λ a b. by_answer
-            (λ w e. by_length (length w) (min n step_limit)
-              (λ short. some_not_none w (ok_same (Some w) None (sym (some_is w a b e ∙ step_fits w n short) ∙ h)))
-              (λ long. not_both _ None _ h (some_is w a b e ∙ step_too_long w n long)))
-            (λ e. record { first = a; second = b; none = λ z is. some_not_none z (sym ((exactly z a b).1 is) ∙ e) }))
+          (λ w e. by_length (length w) (min n step_limit)
+          (λ short. some_not_none w (ok_same (Some w) None (sym (some_is w a b e ∙ step_fits w n short) ∙ h)))
+          (λ long. not_both _ None _ h (some_is w a b e ∙ step_too_long w n long)))
+          (λ e. record { first = a; second = b; none = λ z is. some_not_none z (sym ((exactly z a b).1 is) ∙ e) }))
           (λ f s. not_both _ None f h (both_refused x y (fitting_step o n) f s)),
       λ h. by_answer
           (λ w e. absurd (h.none w ((exactly w h.first h.second).0 e)))
@@ -446,11 +453,11 @@ module _ (d : Design) (ps : List Pair) (ns : List ℕ) (t : Transitions) (i : In
         to h =
             by_both x y
             (λ a b. by_answer
-              (λ w e. by_length (length w) (min n step_limit)
-                (λ short. not_both _ (Some w) f (some_is w a b e ∙ step_fits w n short) h)
-                (λ long. told _ (AnswerRefused.too_long w a b ((exactly w a b).0 e) long)
-                    (some_is w a b e ∙ step_too_long w n long) h))
-              (λ e. not_both _ None f (none_is a b e) h))
+            (λ w e. by_length (length w) (min n step_limit)
+            (λ short. not_both _ (Some w) f (some_is w a b e ∙ step_fits w n short) h)
+            (λ long. told _ (AnswerRefused.too_long w a b ((exactly w a b).0 e) long)
+            (some_is w a b e ∙ step_too_long w n long) h))
+            (λ e. not_both _ None f (none_is a b e) h))
             (λ g s. told g (AnswerRefused.steps s) (both_refused x y (fitting_step o n) g s) h)
 
         from : (g : MaskFault) → AnswerRefused d ps ns x y Is n g → both_answer t x y (fitting_step o n) ≡ Err g

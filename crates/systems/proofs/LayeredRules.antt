@@ -69,8 +69,8 @@ module _ (d : Design) (ps : List Pair) (ns : List ℕ) (pairs : sound_pairs ps �
   moves : (a x b : Str) → layered.hidden x ≡ false → (layered.next a x ≡ Ok b) ↔ Moves d a x b
   moves a x b shown =
       let same : layered.next a x
-          ≡ (transitions_of d).next a x =
-          ap (λ h. cond h (Err 0) ((transitions_of d).next a x)) (not_stopped x shown) in
+      ≡ (transitions_of d).next a x =
+      ap (λ h. cond h (Err 0) ((transitions_of d).next a x)) (not_stopped x shown) in
       let rule = r.moves a x b in
       (λ e. rule.0 (sym same ∙ e), λ h. same ∙ rule.1 h)
 
@@ -78,8 +78,8 @@ module _ (d : Design) (ps : List Pair) (ns : List ℕ) (pairs : sound_pairs ps �
       (layered.next a x ≡ Err p) ↔ (((b : Str) → Moves d a x b → ⊥) × StuckAt d a x p)
   stuck a x p shown state step =
       let same : layered.next a x
-          ≡ (transitions_of d).next a x =
-          ap (λ h. cond h (Err 0) ((transitions_of d).next a x)) (not_stopped x shown) in
+      ≡ (transitions_of d).next a x =
+      ap (λ h. cond h (Err 0) ((transitions_of d).next a x)) (not_stopped x shown) in
       let rule = r.stuck a x p state step in
       (λ e. rule.0 (sym same ∙ e), λ h. same ∙ rule.1 h)
 

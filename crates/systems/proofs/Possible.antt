@@ -27,7 +27,7 @@ pub possible_by_rules : (s : TermsOrNet) (pairs : Pairs) (names : Names) →
     Possible (design_of s) (pairs_of pairs) (names_of names)
     (mask_transitions (names_of names) (renaming_transitions (pairs_of pairs) (transitions_of (design_of s))))
     (mask_independence (names_of names) (renaming_transitions (pairs_of pairs) (transitions_of (design_of s)))
-        (independence_of (design_of s)))
+    (independence_of (design_of s)))
 possible_by_rules s pairs names =
     possible (design_of s) (pairs_of pairs) (names_of names) _ _
     (layered_by_rules (design_of s) (pairs_of pairs) (names_of names) pairs.sound names.sound (design_follows s))

@@ -17,8 +17,11 @@ pub record Layered : Type 0 where
   pub names : List ℕ
 
 abbrev pub layered_of : Mask (Renaming TermsOrNet) → Layered
-layered_of m = record { design = design_of m.system.system; pairs = pairs_of m.system.pairs;
-    names = names_of m.names }
+layered_of m = record {
+  design = design_of m.system.system;
+  pairs = pairs_of m.system.pairs;
+  names = names_of m.names;
+}
 
 -- what a step shows below the mask is renamed
 abbrev pub renamed_transitions : Layered → Transitions

@@ -24,14 +24,10 @@ pub type System = Mask<Renaming<TermsOrNet>>;
 // say: which strings are states and steps, which step leads where and what it shows, which steps
 // are independent; and what is refused, in which order and at which place.
 pub fn layered(system: TermsOrNet, pairs: Pairs, names: Names) -> System
-    ensures parts {
-        layered_of result
-        ≡ record { design = design_of system; pairs = pairs_of pairs; names = names_of names }
-    }
-    ensures possible {
-        Possible (design_of system) (pairs_of pairs) (names_of names)
-        (transitions_of_system result) (independence_of_system result)
-    }
+    ensures parts { layered_of result
+        ≡ record { design = design_of system; pairs = pairs_of pairs; names = names_of names } }
+    ensures possible { Possible (design_of system) (pairs_of pairs) (names_of names)
+        (transitions_of_system result) (independence_of_system result) }
     ensures every { EverySystem }
 {
     Mask::over(Renaming::over(system, pairs), names)
