@@ -3,3 +3,4 @@ mod Spelling
 mod Naming
 pub mod ByRules
 pub mod Places
+mod Answered

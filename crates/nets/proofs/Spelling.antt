@@ -4,6 +4,7 @@ use Rattle.std.proofs.Math.Pow.{are_bytes}
 use Rattle.std.proofs.lemmas.Bool.{and_parts, cases_Bool, cases_lt, ltb-true, eqb-true, cond-true, cond-false}
 use Rattle.std.proofs.lemmas.List.{get_or_past}
 use Rattle.std.proofs.lemmas.List.Elements.{All-nil, All-cons}
+use Rattle.std.proofs.lemmas.Grind.{get_or_default_zero}
 use Rattle.std.specs.Int.Digits.{number_from_digits}
 use Rattle.steps.specs.Meaning.{Str}
 use Rattle.nets.specs.Marking.{Holds, bytes_of, eight_bytes, read_marking}
@@ -28,6 +29,9 @@ below_eight P a b c d e f g h (suc (suc (suc (suc (suc (suc (suc (suc k)))))))) 
 pub byte_below : (s : Str) → AreBytes s → (i : ℕ) → slice_index s i < 256
 byte_below s h i =
     ⊎_elim (λ l. h i 0 l) (λ g. omega (arith, get_or_past s i 0 g)) (cases_lt i (length s))
+
+pub bytes_at : (s : Str) → ((i : ℕ) → slice_index s i < 256) → AreBytes s
+bytes_at s h i d l = omega (arith, h i, get_or_default_zero s i d l)
 
 pub bytes_of_test : (s : Str) → IsTrue (are_bytes s) → AreBytes s
 bytes_of_test [] h = All-nil (λ b. b < 256)

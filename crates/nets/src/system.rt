@@ -1,10 +1,16 @@
 // The step system of a net: its states are markings, its steps the numbers of its events.
-ghost use Rattle.std.specs.Prelude.{◌≡◌, length};
+ghost use Rattle.std.specs.Prelude.{◌≡◌, ℕ, ◌≤◌, ◌↔◌, true, length, take, Ok, Err, IsOk, IfOk, IfSome, IfNone};
+ghost use Rattle.byte_strings.specs.Buffer.{count, buffer_after, count_some, buffer_after_some};
+ghost use Rattle.steps.specs.Meaning.{Str};
+ghost use Rattle.steps.specs.Beginning.{LongestBeginning};
+ghost use Rattle.steps.specs.Answers.{state_answer, step_answer, label_answer, next_answer, independent_answer, left_answer, back_answer, fitting_state};
+ghost use Rattle.steps.specs.declared.fault.MaskFault.TheVariants.{Inner};
+ghost use Rattle.steps.specs.declared.fault.SystemFault.TheVariants.{NoState, NoStep, Impossible};
+ghost use Rattle.nets.specs.declared.event.Event.{Event};
 ghost use Rattle.nets.specs.Contents.{events_of};
 ghost use Rattle.nets.specs.Marking.{bytes_of};
 ghost use Rattle.nets.specs.System.{net_transitions, net_independence};
-ghost use Rattle.byte_strings.specs.Buffer.{count, buffer_after};
-ghost use Rattle.steps.specs.Answers.{fitting_state};
+ghost use Rattle.nets.specs.Rules.{IsMarking, IsEvent, Names, NetGoes, Stuck, NetLeaves, StepPlace};
 ghost use Rattle.nets.specs.Laws.{net_laws};
 
 use crate::marking::read;
@@ -30,24 +36,42 @@ impl StepSystem for Net {
 
     ghost lawful = { λ n. net_laws (events_of n) n.sound };
 
-    fn state(&self, state: &[u8]) -> Result<(), MaskFault> {
+    // Also: any eight bytes are a state; of others the place tells where the longest beginning of one ends.
+    fn state(&self, state: &[u8]) -> Result<(), MaskFault>
+        ensures answer { result ≡ state_answer (net_transitions (events_of self.now)) state.now }
+        ensures markings { IsOk result ↔ IsMarking state.now }
+        ensures place { (p : ℕ) → result ≡ Err (Inner (NoState p)) → LongestBeginning IsMarking state.now p }
+    {
         read(state)?;
         Ok(())
     }
 
-    fn step(&self, step: &[u8]) -> Result<(), MaskFault> {
+    fn step(&self, step: &[u8]) -> Result<(), MaskFault>
+        ensures answer { result ≡ step_answer (net_transitions (events_of self.now)) step.now }
+        ensures events { IsOk result ↔ IsEvent (events_of self.now) step.now }
+        ensures place { (p : ℕ) → result ≡ Err (Inner (NoStep p)) → StepPlace (events_of self.now) step.now p }
+    {
         self.event(step)?;
         Ok(())
     }
 
-    fn label(&self, step: &[u8]) -> Result<Label, MaskFault> {
+    fn label(&self, step: &[u8]) -> Result<Label, MaskFault>
+        ensures answer { result ≡ label_answer (net_transitions (events_of self.now)) step.now }
+        ensures action { (e : Event) → Names (events_of self.now) step.now e → result ≡ Ok (record { action = e.action }) }
+    {
         let event = self.event(step)?;
         Ok(Label {
             action: event.action,
         })
     }
 
-    fn next(&self, state: &[u8], step: &[u8], out: &mut [u8]) -> Result<usize, MaskFault> {
+    fn next(&self, state: &[u8], step: &[u8], out: &mut [u8]) -> Result<usize, MaskFault>
+        ensures answer { result ≡ count (next_answer (net_transitions (events_of self.now)) state.now step.now (length out.old)) }
+        ensures buffer { out.new ≡ buffer_after (next_answer (net_transitions (events_of self.now)) state.now step.now (length out.old)) out.old }
+        ensures moves { IfOk result (λ n. NetGoes (events_of self.now) state.now step.now (take n out.new)) }
+        ensures whole { (b : Str) → NetGoes (events_of self.now) state.now step.now b → 8 ≤ length out.old → result ≡ Ok 8 }
+        ensures stuck { (result ≡ Err (Inner (Impossible 0))) ↔ Stuck (events_of self.now) state.now step.now }
+    {
         let event = self.event(step)?;
         let marking = read(state)?;
         let after = event
@@ -56,17 +80,30 @@ impl StepSystem for Net {
         put_marking(after, out)
     }
 
-    fn independent(&self, x: &[u8], y: &[u8]) -> Result<bool, MaskFault> {
+    fn independent(&self, x: &[u8], y: &[u8]) -> Result<bool, MaskFault>
+        ensures answer { result ≡ independent_answer (net_transitions (events_of self.now)) (net_independence (events_of self.now)) x.now y.now }
+        ensures rule { (result ≡ Ok true) ↔ NetLeaves (events_of self.now) x.now y.now x.now }
+    {
         let first = self.event(x)?;
         let second = self.event(y)?;
         Ok(first.apart_from(second))
     }
 
-    fn residual(&self, x: &[u8], y: &[u8], out: &mut [u8]) -> Result<Option<usize>, MaskFault> {
+    fn residual(&self, x: &[u8], y: &[u8], out: &mut [u8]) -> Result<Option<usize>, MaskFault>
+        ensures answer { result ≡ count_some (left_answer (net_transitions (events_of self.now)) (net_independence (events_of self.now)) x.now y.now (length out.old)) }
+        ensures buffer { out.new ≡ buffer_after_some (left_answer (net_transitions (events_of self.now)) (net_independence (events_of self.now)) x.now y.now (length out.old)) out.old }
+        ensures leaves { IfOk result (λ left. IfSome left (λ n. NetLeaves (events_of self.now) x.now y.now (take n out.new))) }
+        ensures nothing { IfOk result (λ left. IfNone left ((z : Str) → NetLeaves (events_of self.now) x.now y.now z → ⊥)) }
+    {
         put_step_if(self.independent(x, y)?, x, out)
     }
 
-    fn back(&self, x: &[u8], z: &[u8], out: &mut [u8]) -> Result<Option<usize>, MaskFault> {
+    fn back(&self, x: &[u8], z: &[u8], out: &mut [u8]) -> Result<Option<usize>, MaskFault>
+        ensures answer { result ≡ count_some (back_answer (net_transitions (events_of self.now)) (net_independence (events_of self.now)) x.now z.now (length out.old)) }
+        ensures buffer { out.new ≡ buffer_after_some (back_answer (net_transitions (events_of self.now)) (net_independence (events_of self.now)) x.now z.now (length out.old)) out.old }
+        ensures leaves { IfOk result (λ origin. IfSome origin (λ n. NetLeaves (events_of self.now) (take n out.new) x.now z.now)) }
+        ensures nothing { IfOk result (λ origin. IfNone origin ((y : Str) → NetLeaves (events_of self.now) y x.now z.now → ⊥)) }
+    {
         put_step_if(self.independent(x, z)?, z, out)
     }
 }

@@ -39,6 +39,11 @@ pub record Reply : Type 0 where
 abbrev pub refused : Model → FrameFault → Reply
 refused m f = record { text = refusal_line (frame_refusal f); model = m }
 
+-- what a setup tells that leaves this model
+abbrev pub set_up_answer : Result (Unit {0}) FrameFault → Model → Reply
+set_up_answer (Ok done) m = record { text = line (0 ∷ []); model = m }
+set_up_answer (Err f) m = refused m f
+
 -- a setup replaces the system and leaves the sheets
 abbrev pub setup_reply : Model → Result Layered FrameFault → Reply
 setup_reply m (Ok l) = record { text = line (0 ∷ []); model = record { system = l; pages = m.pages } }
