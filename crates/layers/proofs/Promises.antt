@@ -1,6 +1,6 @@
 -- What masks and renamings promise holds over every step system.
-use Rattle.std.proofs.Common.{◌≡◌, ℕ, ◌+◌, Bool, true, false, cond, ◌||◌, ◌⊎◌, ◌↔◌, inl, inr, List, [], ◌∷◌, nat_eq, is_some, Some, None, Ok, Err, Option, Result, refl, sym, ap, subst, ◌∙◌, arith}
-use Rattle.std.proofs.lemmas.Bool.{cond-false, false≢true, eqb-true, eqb-false}
+use Rattle.std.proofs.Common.{◌≡◌, ℕ, ◌+◌, Bool, true, false, cond, not, ◌&&◌, ◌||◌, ◌⊎◌, ◌↔◌, inl, inr, List, [], ◌∷◌, nat_eq, is_some, Some, None, Ok, Err, Option, Result, refl, sym, ap, subst, ◌∙◌, arith}
+use Rattle.std.proofs.lemmas.Bool.{and_parts, cond-false, false≢true, eqb-true, eqb-false}
 use Rattle.std.proofs.lemmas.List.Elements.{Contains-append_left, Contains-append_right, Contains-append_cases, Contains-push_cases}
 use Rattle.std.specs.List.{Contains}
 use Rattle.actions.specs.declared.pairs.Pair.{Pair}
@@ -8,7 +8,7 @@ use Rattle.actions.specs.Action.{is_name, name_of}
 use Rattle.actions.specs.Names.{all_names, hides}
 use Rattle.actions.specs.Pairs.{to_of, sound_pairs, replacement}
 use Rattle.actions.proofs.Listed.{contains_one, finds, name_found, hides_listed, at_least, at_most, shown}
-use Rattle.actions.proofs.Paired.{listed, to_name, sound_from, sound_rest, renames_names}
+use Rattle.actions.proofs.Paired.{listed, to_name, renames_names}
 use Rattle.steps.specs.declared.label.Label.{Label}
 use Rattle.steps.specs.declared.fault.MaskFault.{MaskFault}
 use Rattle.steps.specs.Answers.{first, step_refusal, hidden_refusal}
@@ -142,13 +142,21 @@ pair_or_none (q ∷ qs) a = go (shows_or_not a q.from) (pair_or_none qs a)
 label_same : (ps : List Pair) (l : Label) → replacement ps l.action ≡ l.action → renamed_label ps l ≡ l
 label_same ps l e = ap (λ a. record l { action = a }) e
 
+-- the first of sound pairs replaces a name, and the others are sound
+first_of_sound : (p : Pair) (ps : List Pair) → sound_pairs (p ∷ ps) ≡ true
+    → (is_name p.from ≡ true) × (sound_pairs ps ≡ true)
+first_of_sound p ps h =
+    let parts = and_parts (is_name p.from && is_name p.to) (not (is_some (to_of ps p.from)) && sound_pairs ps) h in
+    ((and_parts (is_name p.from) (is_name p.to) parts.0).0,
+        (and_parts (not (is_some (to_of ps p.from))) (sound_pairs ps) parts.1).1)
+
 -- what has a pair is a name
 from_name : (ps : List Pair) (n m : ℕ) → sound_pairs ps ≡ true → to_of ps n ≡ Some m → is_name n ≡ true
 from_name [] n m sound e = some_not_none m (sym e)
 from_name (p ∷ ps) n m sound e =
     elim (nat_eq p.from n) as (λ b. nat_eq p.from n ≡ b → cond b (Some p.to) (to_of ps n) ≡ Some m → is_name n ≡ true) [
-      | true ↦ λ same e. ap is_name (sym (eqb-true p.from n same)) ∙ sound_from p ps sound
-      | false ↦ λ other e. from_name ps n m (sound_rest p ps sound) e
+      | true ↦ λ same e. ap is_name (sym (eqb-true p.from n same)) ∙ (first_of_sound p ps sound).0
+      | false ↦ λ other e. from_name ps n m (first_of_sound p ps sound).1 e
     ] refl e
 
 module _ (ps : List Pair) (sound : sound_pairs ps ≡ true) where

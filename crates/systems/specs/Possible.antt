@@ -3,6 +3,7 @@
 -- not of the code. Assumes nothing.
 use Rattle.std.specs.Prelude.{◌≡◌, ℕ, ◌<◌, ◌≤◌, min, Bool, true, false, ◌⊎◌, ◌↔◌, List, length, Some, None, Ok, Err, All}
 use Rattle.actions.specs.declared.pairs.Pair.{Pair}
+use Rattle.actions.specs.Contents.{names_of, pairs_of}
 use Rattle.steps.specs.declared.label.Label.{Label}
 use Rattle.steps.specs.declared.fault.MaskFault.{MaskFault}
 use Rattle.steps.specs.declared.fault.MaskFault.TheVariants.{Masked, Inner}
@@ -11,7 +12,6 @@ use Rattle.steps.specs.Meaning.{Str, Transitions, Independence}
 use Rattle.steps.specs.Laws.{state_limit, step_limit}
 use Rattle.steps.specs.Answers.{told_length, state_answer, step_answer, label_answer, next_answer, independent_answer, left_answer, back_answer}
 use Rattle.layers.specs.Promises.{ShowsListed, Renames}
-use Rattle.actions.specs.Contents.{names_of, pairs_of}
 use Rattle.layers.specs.declared.masks.Mask.{Mask}
 use Rattle.layers.specs.declared.renamings.Renaming.{Renaming}
 use Rattle.systems.specs.declared.terms_or_net.TermsOrNet.{TermsOrNet}
@@ -65,8 +65,8 @@ module _ (d : Design) (ps : List Pair) (ns : List ℕ) where
     not_possible : {p : ℕ} → Allowed x → WithinState d a → ((b : Str) → Moves d a x b → ⊥) →
         StuckAt d a x p → Refused a x n (Inner (Impossible p))
     -- the state that follows is too long for the limit or the buffer: the length that it needs
-    too_long : (b : Str) → Allowed x → WithinState d a → Moves d a x b
-        → min n state_limit < length b →
+    too_long : (b : Str) → Allowed x → WithinState d a → Moves d a x b →
+        min n state_limit < length b →
         Refused a x n (Inner (StateTooLong (told_length (length b))))
 
   -- Why two steps are refused: the first is none, the second is none, the mask stops one of them.
@@ -87,18 +87,21 @@ module _ (d : Design) (ps : List Pair) (ns : List ℕ) where
     pub is : Is z
     pub fits : length z ≤ min n step_limit
 
+  -- There is none.
   pub record NoneAnswered (x y : Str) (Is : Str → Type 0) : Type 0 where
     pub first : Allowed x
     pub second : Allowed y
     pub none : (z : Str) → Is z → ⊥
 
+  -- Why neither is answered: one of the two is refused; else the answer is too long for the limit or
+  -- the buffer, told by the length that it needs.
   pub data AnswerRefused (x y : Str) (Is : Str → Type 0) (n : ℕ) : MaskFault → Type 0 where
     steps : {f : MaskFault} → BothRefused x y f → AnswerRefused x y Is n f
     too_long : (z : Str) → Allowed x → Allowed y → Is z → min n step_limit < length z →
         AnswerRefused x y Is n (Inner (StepTooLong (told_length (length z))))
 
   -- All that is asked of a system with these transitions and this independence is answered so, and
-  -- refused so.
+  -- refused so. Where a place in a state is told, it is told of a string of bytes.
   pub record Possible (t : Transitions) (i : Independence) : Type 0 where
     -- from the state a by the step x
     pub next : (a x b : Str) (n : ℕ) → (next_answer t a x n ≡ Ok b) ↔ Accepted a x n b
