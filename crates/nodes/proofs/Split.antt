@@ -11,67 +11,24 @@ use Rattle.ccs.specs.Reading.{term_byte, proof_byte}
 use Rattle.ccs.proofs.Cases.{both_of}
 use Rattle.nodes.specs.declared.scan.Due.TheVariants.{Node, Action, Name, Number}
 use Rattle.nodes.specs.declared.scan.Wanted.{Wanted}
-use Rattle.nodes.specs.Whole.{done, one_on, whole, start}
+use Rattle.nodes.specs.Whole.{done, one_on, whole, start, shifted, ahead}
 use Rattle.nodes.specs.Grammars.{fits_of}
-use Rattle.nodes.proofs.Whole.{shifted}
-
-more_due : (k : ℕ) → done (record { due = Node; count = suc k }) ≡ false
-more_due k = ne_eqb (suc k) 0 (λ e. absurd (omega (arith, e)))
+use Rattle.nodes.proofs.Ahead.{more_due, one_ahead, shifted_ahead, on_byte, last_byte}
 
 module _ (fits : Wanted → ℕ → Option Wanted) where
-  -- behind l bytes, where so many more are due
-  ahead : ℕ → ℕ → Str → Result ℕ ℕ
-  ahead l zero s = Ok l
-  ahead l (suc k) s = shifted l (whole fits (record { due = Node; count = suc k }) s)
-
-  one_ahead : (l k : ℕ) (s : Str) → one_on (ahead l k s) ≡ ahead (suc l) k s
-  unfolding ahead shifted
-  one_ahead l zero s = ap Ok (omega arith)
-  one_ahead l (suc k) s = go (whole fits (record { due = Node; count = suc k }) s)
-    where
-      go : (r : Result ℕ ℕ) → one_on (shifted l r) ≡ shifted (suc l) r
-      go (Ok n) = ap Ok (omega arith)
-      go (Err p) = ap Err (omega arith)
-
-  shifted_ahead : (m l k : ℕ) (s : Str) → shifted m (ahead l k s) ≡ ahead (m + l) k s
-  unfolding ahead shifted
-  shifted_ahead m l zero s = refl
-  shifted_ahead m l (suc k) s = go (whole fits (record { due = Node; count = suc k }) s)
-    where
-      go : (r : Result ℕ ℕ) → shifted m (shifted l r) ≡ shifted (m + l) r
-      go (Ok n) = ap Ok (omega arith)
-      go (Err p) = ap Err (omega arith)
-
-  abbrev over_byte : Option Wanted → Str → Result ℕ ℕ
-  over_byte o s = elim o [ None ↦ Err 0 | Some v ↦ cond (done v) (Ok 1) (one_on (whole fits v s)) ]
-
-  -- a byte behind which more is due, and the last byte of one
-  on_byte : (w v : Wanted) (b : ℕ) (s : Str) → fits w b ≡ Some v → done v ≡ false → whole fits w (b ∷ s) ≡ one_on (whole fits v s)
-  unfolding whole
-  on_byte w v b s e d = ap (λ o. over_byte o s) e ∙ ap (λ c. cond c (Ok 1) (one_on (whole fits v s))) d
-
-  last_byte : (w : Wanted) (k b : ℕ) (s : Str) → fits w b ≡ Some (record { due = Node; count = k }) → whole fits w (b ∷ s) ≡ ahead 1 k s
-  unfolding whole ahead shifted
-  last_byte w zero b s e = ap (λ o. over_byte o s) e
-  last_byte w (suc k) b s e = on_byte w (record { due = Node; count = suc k }) b s e (more_due k) ∙ (go (whole fits (record { due = Node; count = suc k }) s))
-    where
-      go : (r : Result ℕ ℕ) → one_on r ≡ shifted 1 r
-      go (Ok n) = refl
-      go (Err p) = refl
-
   -- a node before one part, and before two
-  before_part : (w : Wanted) (k b : ℕ) (x s : Str) → fits w b ≡ Some (record { due = Node; count = suc k }) → whole fits (record { due = Node; count = suc k }) (x ++ s) ≡ ahead (length x) k s → whole fits w (b ∷ (x ++ s)) ≡ ahead (suc (length x)) k s
-  before_part w k b x s e h = on_byte w (record { due = Node; count = suc k }) b (x ++ s) e (more_due k) ∙ ap one_on h ∙ one_ahead (length x) k s
+  before_part : (w : Wanted) (k b : ℕ) (x s : Str) → fits w b ≡ Some (record { due = Node; count = suc k }) → whole fits (record { due = Node; count = suc k }) (x ++ s) ≡ ahead fits (length x) k s → whole fits w (b ∷ (x ++ s)) ≡ ahead fits (suc (length x)) k s
+  before_part w k b x s e h = on_byte fits w (record { due = Node; count = suc k }) b (x ++ s) e (more_due k) ∙ ap one_on h ∙ one_ahead fits (length x) k s
 
   before_parts : (w : Wanted) (k b : ℕ) (x y s : Str) → fits w b ≡ Some (record { due = Node; count = suc (suc k) })
-      → ((r : Str) → whole fits (record { due = Node; count = suc (suc k) }) (x ++ r) ≡ ahead (length x) (suc k) r)
-      → whole fits (record { due = Node; count = suc k }) (y ++ s) ≡ ahead (length y) k s
-      → whole fits w (b ∷ ((x ++ y) ++ s)) ≡ ahead (suc (length (x ++ y))) k s
+      → ((r : Str) → whole fits (record { due = Node; count = suc (suc k) }) (x ++ r) ≡ ahead fits (length x) (suc k) r)
+      → whole fits (record { due = Node; count = suc k }) (y ++ s) ≡ ahead fits (length y) k s
+      → whole fits w (b ∷ ((x ++ y) ++ s)) ≡ ahead fits (suc (length (x ++ y))) k s
   unfolding ahead
   before_parts w k b x y s e h g =
-      on_byte w (record { due = Node; count = suc (suc k) }) b ((x ++ y) ++ s) e (more_due (suc k))
-      ∙ ap one_on (ap (whole fits (record { due = Node; count = suc (suc k) })) (append_assoc x y s) ∙ h (y ++ s) ∙ ap (shifted (length x)) g ∙ shifted_ahead (length x) (length y) k s ∙ ap (λ l. ahead l k s) (sym (length-append x y)))
-      ∙ one_ahead (length (x ++ y)) k s
+      on_byte fits w (record { due = Node; count = suc (suc k) }) b ((x ++ y) ++ s) e (more_due (suc k))
+      ∙ ap one_on (ap (whole fits (record { due = Node; count = suc (suc k) })) (append_assoc x y s) ∙ h (y ++ s) ∙ ap (shifted (length x)) g ∙ shifted_ahead fits (length x) (length y) k s ∙ ap (λ l. ahead fits l k s) (sym (length-append x y)))
+      ∙ one_ahead fits (length (x ++ y)) k s
 
 whole_proof : (t : Proof) → sound_proof t ≡ true → (k : ℕ) (s : Str) → whole (fits_of proof_byte) (record { due = Node; count = suc k }) (proof_bytes t ++ s) ≡ ahead (fits_of proof_byte) (length (proof_bytes t)) k s
 unfolding proof_bytes sound_proof proof_byte

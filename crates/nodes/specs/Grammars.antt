@@ -1,10 +1,11 @@
 -- Which bytes fit, of terms and of proofs, without what they make. Assumes nothing.
-use Rattle.std.specs.Prelude.{ℕ, Some, None, Option}
+use Rattle.std.specs.Prelude.{ℕ, Some, None, Option, nat_eq, if◌then◌else◌}
 use Rattle.ccs.specs.Reading.{Next}
 use Rattle.ccs.specs.Reading as reading
 use Rattle.nodes.specs.declared.scan.Due.{Due}
 use Rattle.nodes.specs.declared.scan.Due.TheVariants.{Node, Action, Name, Number}
 use Rattle.nodes.specs.declared.scan.Wanted.{Wanted}
+use Rattle.nodes.specs.declared.scan.Size.{Size}
 
 abbrev pub due_of : Due → reading.Due
 due_of Node = reading.Due.node
@@ -25,3 +26,17 @@ wanted_next (Some x) = Some (record { due = due_in x.due; count = x.count })
 
 abbrev pub fits_of : {A : Type 0} → (reading.Due → ℕ → ℕ → Option (Next A)) → Wanted → ℕ → Option Wanted
 fits_of byte w b = wanted_next (byte (due_of w.due) w.count b)
+
+-- how many bytes of its own a node has, and how many parts, by its first byte
+abbrev pub proof_size : ℕ → Size
+proof_size kind =
+    if nat_eq kind 0x10 then record { own = 2; parts = 0 }
+    else if nat_eq kind 0x13 then record { own = 1; parts = 2 }
+    else if nat_eq kind 0x16 then record { own = 2; parts = 1 } else record { own = 1; parts = 1 }
+
+abbrev pub term_size : ℕ → Size
+term_size kind =
+    if nat_eq kind 0x00 then record { own = 1; parts = 0 }
+    else if nat_eq kind 0x01 then record { own = 2; parts = 1 }
+    else if nat_eq kind 0x04 then record { own = 2; parts = 1 }
+    else if nat_eq kind 0x05 then record { own = 2; parts = 0 } else record { own = 1; parts = 2 }

@@ -22,6 +22,11 @@ module _ {A : Type 0} where
   two_parts f None = None
   two_parts f (Some (s, r)) = Some (f s r)
 
+-- the node of a string's first byte and the bytes behind it
+abbrev pub on_first : {A : Type 0} → (ℕ → Str → Option A) → Str → Option A
+on_first shape [] = None
+on_first shape (k ∷ s) = shape k s
+
 abbrev pub proof_shape : ℕ → Str → Option NodeOfProof
 proof_shape kind s =
     if nat_eq kind 0x10 then own_only Act s

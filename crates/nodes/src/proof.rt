@@ -1,14 +1,14 @@
 // The nodes of a proof.
-ghost use Rattle.std.specs.Prelude.{◌≡◌, suc, ◌+◌, ◌<◌, ◌^◌, length};
+ghost use Rattle.std.specs.Prelude.{◌≡◌, suc, ◌+◌, ◌<◌, ◌≤◌, ◌^◌, Some, is_ok, length, IsTrue};
 ghost use Rattle.std.specs.Result.{result_err};
 ghost use Rattle.ccs.specs.Reading.{read_proof, proof_byte};
 ghost use Rattle.nodes.specs.declared.scan.Due.TheVariants.{Node};
 ghost use Rattle.nodes.specs.Whole.{at_most_one_more};
-ghost use Rattle.nodes.specs.Grammars.{fits_of};
-ghost use Rattle.nodes.specs.Nodes.{ProofNode, Fills, proof_view};
-ghost use Rattle.nodes.specs.Shapes.{proof_shape};
+ghost use Rattle.nodes.specs.Grammars.{fits_of, proof_size};
+ghost use Rattle.nodes.specs.Nodes.{ProofNode, Fills, ProofsRead, node_of_proof, proof_view};
+ghost use Rattle.nodes.specs.Shapes.{proof_shape, on_first};
 
-use crate::scan::{Due, Grammar, Wanted, fault, split};
+use crate::scan::{Due, Grammar, Size, Wanted, fault, split};
 use actions::action::{is_action, is_name};
 
 // A node of a proof, with its parts as they stand in the string.
@@ -40,6 +40,25 @@ impl Grammar for Proofs {
             _ => None,
         }
     }
+
+    fn size(&self, kind: u8) -> Size {
+        node_size(kind)
+    }
+}
+
+// The size of a proof's node with this first byte.
+fn node_size(kind: u8) -> Size
+    ensures size { result ≡ proof_size kind }
+    ensures some { 1 ≤ result.own }
+    ensures few { result.parts ≤ result.own + 1 }
+    ensures short { result.own ≤ 2 }
+{
+    match kind {
+        0x10 => Size { own: 2, parts: 0 },
+        0x13 => Size { own: 1, parts: 2 },
+        0x16 => Size { own: 2, parts: 1 },
+        _ => Size { own: 1, parts: 1 },
+    }
 }
 
 // What is wanted behind the first byte of a proof's node, where so many more proofs are due.
@@ -66,32 +85,33 @@ impl Proof<'_> {
         fault(&Proofs, bytes)
     }
 
-    // Reads a proof as its first node; none where the string is no proof.
-    pub fn read(bytes: &[u8]) -> Option<Proof<'_>>
-        ensures node { ProofNode (proof_view result) (read_proof bytes.now) }
-        ensures lengths { Fills (proof_view result) (length bytes.now) }
+    // The first node of a string that is a proof. Its parts are proofs, so nothing is read again.
+    pub fn of(bytes: &[u8]) -> Proof<'_>
+        requires { IsTrue (is_ok (read_proof bytes.now)) }
+        ensures node { ProofNode (Some (node_of_proof result)) (read_proof bytes.now) }
+        ensures lengths { Fills (Some (node_of_proof result)) (length bytes.now) }
+        ensures parts { ProofsRead (node_of_proof result) }
     {
-        if fault(&Proofs, bytes).is_some() {
-            return None;
-        }
-        let Some((kind, rest)) = bytes.split_first() else {
-            return None;
+        let Some(node) = shape(bytes) else {
+            return unreachable();
         };
-        shape(*kind, rest)
+        node
     }
 }
 
-// The node with this first byte, before these bytes; none where they do not fit it.
-fn shape(kind: u8, rest: &[u8]) -> Option<Proof<'_>>
-    ensures node { proof_view result ≡ proof_shape kind rest.now }
-    ensures lengths { Fills (proof_view result) (length rest.now + 1) }
+// The node with the first byte, before the others; none where they do not fit it.
+fn shape(bytes: &[u8]) -> Option<Proof<'_>>
+    requires { IsTrue (is_ok (read_proof bytes.now)) }
+    ensures node { proof_view result ≡ on_first proof_shape bytes.now }
+    ensures lengths { Fills (proof_view result) (length bytes.now) }
 {
-    match kind {
+    let (kind, rest) = bytes.split_first()?;
+    match *kind {
         0x10 => Some(Proof::Act(*rest.first()?)),
         0x11 => Some(Proof::Left(rest)),
         0x12 => Some(Proof::Right(rest)),
         0x13 => {
-            let (first, second) = split(&Proofs, rest)?;
+            let (first, second) = split(&Proofs, rest);
             Some(Proof::Both(first, second))
         }
         0x14 => Some(Proof::ChooseLeft(rest)),
