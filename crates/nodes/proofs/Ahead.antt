@@ -3,7 +3,7 @@ use Rattle.std.proofs.Common.{◌≡◌, ℕ, zero, suc, ◌+◌, ◌-◌, ◌<�
 use Rattle.std.proofs.lemmas.Bool.{ne_eqb, ltb-true, ltb-false}
 use Rattle.std.proofs.lemmas.List.{drop_more, drop_all}
 use Rattle.steps.specs.Meaning.{Str}
-use Rattle.nodes.specs.declared.scan.Due.TheVariants.{Node}
+use Rattle.ccs.specs.declared.due.Due.TheVariants.{Node}
 use Rattle.nodes.specs.declared.scan.Wanted.{Wanted}
 use Rattle.nodes.specs.Whole.{done, one_on, whole, start, shifted, ahead, IsSize}
 

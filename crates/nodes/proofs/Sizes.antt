@@ -1,14 +1,14 @@
 -- How many bytes of its own a node has, and how many parts, by its first byte. Assumes nothing.
 use Rattle.std.proofs.Common.{◌≡◌, ◌⊎◌, inl, inr, ℕ, suc, ◌+◌, Bool, true, false, cond, [], ◌∷◌, drop, Some, None, Ok, Option, Result, nat_eq, nat_le, nat_lt, sym, refl, ap, ◌∙◌, arith}
 use Rattle.std.proofs.lemmas.Bool.{eqb-true}
+use Rattle.ccs.specs.declared.node_bytes.TheConstants.{NIL, PREFIX, PARALLEL, SUM, RESTRICTION, CALL, ACT, LEFT, RIGHT, BOTH, CHOOSE_LEFT, CHOOSE_RIGHT, UNDER}
 use Rattle.steps.specs.Meaning.{Str}
 use Rattle.actions.specs.Action.{is_name, is_action}
 use Rattle.ccs.specs.Syntax.{Term}
 use Rattle.ccs.specs.Syntax.Term.{nil, prefix, par, sum, restrict, call}
 use Rattle.ccs.specs.Syntax.Proof.{act, on_left, on_right, both, choose_left, choose_right, under}
 use Rattle.ccs.specs.Reading.{Next, alone, with_part, with_parts, before, term_byte, proof_byte}
-use Rattle.ccs.specs.Reading as reading
-use Rattle.nodes.specs.declared.scan.Due.TheVariants.{Node, Action, Name, Number}
+use Rattle.ccs.specs.declared.due.Due.TheVariants.{Node, Action, Name, Number}
 use Rattle.nodes.specs.declared.scan.Wanted.{Wanted}
 use Rattle.nodes.specs.Whole.{done, one_on, whole, ahead, IsSize}
 use Rattle.nodes.specs.Grammars.{wanted_next, fits_of, proof_size, term_size}
@@ -74,25 +74,25 @@ name_due d m false = inl refl
 
 pub proof_sizes : (k : ℕ) → IsSize (fits_of proof_byte) k (proof_size k).own (proof_size k).parts
 unfolding proof_byte
-proof_sizes k = on_act (nat_eq k 0x10) refl
+proof_sizes k = on_act (nat_eq k ACT) refl
   where
-    on_under : (c : Bool) → nat_eq k 0x16 ≡ c → nat_eq k 0x10 ≡ false → nat_eq k 0x13 ≡ false → IsSize (fits_of proof_byte) k (proof_size k).own (proof_size k).parts
+    on_under : (c : Bool) → nat_eq k UNDER ≡ c → nat_eq k ACT ≡ false → nat_eq k BOTH ≡ false → IsSize (fits_of proof_byte) k (proof_size k).own (proof_size k).parts
     on_under true e f g =
-        let five : k ≡ 0x16 = eqb-true k 0x16 e in
+        let five : k ≡ UNDER = eqb-true k UNDER e in
         rw (e, f, g) (two_bytes (fits_of proof_byte) k 1 (λ d. record { due = Name; count = d }) (λ d. rw five (inr refl)) (λ d. refl) (λ d b. name_due d b (is_name b)))
-    on_under false e f g = rw (e, f, g) (one_byte (fits_of proof_byte) k 1 (λ d. rw (e, f, g, one_more d) (one_part d (nat_eq k 0x11) (nat_eq k 0x12) (nat_eq k 0x14) (nat_eq k 0x15))))
+    on_under false e f g = rw (e, f, g) (one_byte (fits_of proof_byte) k 1 (λ d. rw (e, f, g, one_more d) (one_part d (nat_eq k LEFT) (nat_eq k RIGHT) (nat_eq k CHOOSE_LEFT) (nat_eq k CHOOSE_RIGHT))))
 
-    on_both : (c : Bool) → nat_eq k 0x13 ≡ c → nat_eq k 0x10 ≡ false → IsSize (fits_of proof_byte) k (proof_size k).own (proof_size k).parts
+    on_both : (c : Bool) → nat_eq k BOTH ≡ c → nat_eq k ACT ≡ false → IsSize (fits_of proof_byte) k (proof_size k).own (proof_size k).parts
     on_both true e f =
-        let both : k ≡ 0x13 = eqb-true k 0x13 e in
+        let both : k ≡ BOTH = eqb-true k BOTH e in
         rw (e, f) (one_byte (fits_of proof_byte) k 2 (λ d. rw (both, two_more d) (inr refl)))
-    on_both false e f = on_under (nat_eq k 0x16) refl f e
+    on_both false e f = on_under (nat_eq k UNDER) refl f e
 
-    on_act : (c : Bool) → nat_eq k 0x10 ≡ c → IsSize (fits_of proof_byte) k (proof_size k).own (proof_size k).parts
+    on_act : (c : Bool) → nat_eq k ACT ≡ c → IsSize (fits_of proof_byte) k (proof_size k).own (proof_size k).parts
     on_act true e =
-        let act : k ≡ 0x10 = eqb-true k 0x10 e in
+        let act : k ≡ ACT = eqb-true k ACT e in
         rw e (two_bytes (fits_of proof_byte) k 0 (λ d. record { due = Action; count = d }) (λ d. rw act (inr refl)) (λ d. refl) (λ d b. action_due d b (is_action b)))
-    on_act false e = on_both (nat_eq k 0x13) refl e
+    on_act false e = on_both (nat_eq k BOTH) refl e
 
 module _ (n : ℕ) where
   number_due : (d m : ℕ) (c : Bool) → Unless (wanted_next (cond c (alone (call m) d) None)) (record { due = Node; count = 0 + d })
@@ -107,7 +107,7 @@ module _ (n : ℕ) where
   restrict_due d m true = rw (one_more d) (inr refl)
   restrict_due d m false = inl refl
 
-  called : (d : ℕ) (c : Bool) → Unless (wanted_next (cond {A = Option (Next Term)} c (before reading.Due.number d) None)) (record { due = Number; count = d })
+  called : (d : ℕ) (c : Bool) → Unless (wanted_next (cond {A = Option (Next Term)} c (before Number d) None)) (record { due = Number; count = d })
   called d true = inr refl
   called d false = inl refl
 
@@ -118,28 +118,28 @@ module _ (n : ℕ) where
 
   pub term_sizes : (k : ℕ) → IsSize (fits_of (term_byte n)) k (term_size k).own (term_size k).parts
   unfolding term_byte
-  term_sizes k = on_nil (nat_eq k 0x00) refl
+  term_sizes k = on_nil (nat_eq k NIL) refl
     where
-      on_call : (c : Bool) → nat_eq k 0x05 ≡ c → nat_eq k 0x00 ≡ false → nat_eq k 0x01 ≡ false → nat_eq k 0x04 ≡ false → IsSize (fits_of (term_byte n)) k (term_size k).own (term_size k).parts
+      on_call : (c : Bool) → nat_eq k CALL ≡ c → nat_eq k NIL ≡ false → nat_eq k PREFIX ≡ false → nat_eq k RESTRICTION ≡ false → IsSize (fits_of (term_byte n)) k (term_size k).own (term_size k).parts
       on_call true e f g h =
-          let five : k ≡ 0x05 = eqb-true k 0x05 e in
+          let five : k ≡ CALL = eqb-true k CALL e in
           rw (e, f, g, h) (two_bytes (fits_of (term_byte n)) k 0 (λ d. record { due = Number; count = d }) (λ d. rw five (called d (nat_le 1 n))) (λ d. refl) (λ d b. number_due d b (nat_lt b n)))
-      on_call false e f g h = rw (e, f, g, h) (one_byte (fits_of (term_byte n)) k 2 (λ d. rw (e, f, g, h) (two_parts d (nat_eq k 0x02) (nat_eq k 0x03))))
+      on_call false e f g h = rw (e, f, g, h) (one_byte (fits_of (term_byte n)) k 2 (λ d. rw (e, f, g, h) (two_parts d (nat_eq k PARALLEL) (nat_eq k SUM))))
 
-      on_restrict : (c : Bool) → nat_eq k 0x04 ≡ c → nat_eq k 0x00 ≡ false → nat_eq k 0x01 ≡ false → IsSize (fits_of (term_byte n)) k (term_size k).own (term_size k).parts
+      on_restrict : (c : Bool) → nat_eq k RESTRICTION ≡ c → nat_eq k NIL ≡ false → nat_eq k PREFIX ≡ false → IsSize (fits_of (term_byte n)) k (term_size k).own (term_size k).parts
       on_restrict true e f g =
-          let four : k ≡ 0x04 = eqb-true k 0x04 e in
+          let four : k ≡ RESTRICTION = eqb-true k RESTRICTION e in
           rw (e, f, g) (two_bytes (fits_of (term_byte n)) k 1 (λ d. record { due = Name; count = d }) (λ d. rw four (inr refl)) (λ d. refl) (λ d b. restrict_due d b (is_name b)))
-      on_restrict false e f g = on_call (nat_eq k 0x05) refl f g e
+      on_restrict false e f g = on_call (nat_eq k CALL) refl f g e
 
-      on_prefix : (c : Bool) → nat_eq k 0x01 ≡ c → nat_eq k 0x00 ≡ false → IsSize (fits_of (term_byte n)) k (term_size k).own (term_size k).parts
+      on_prefix : (c : Bool) → nat_eq k PREFIX ≡ c → nat_eq k NIL ≡ false → IsSize (fits_of (term_byte n)) k (term_size k).own (term_size k).parts
       on_prefix true e f =
-          let one : k ≡ 0x01 = eqb-true k 0x01 e in
+          let one : k ≡ PREFIX = eqb-true k PREFIX e in
           rw (e, f) (two_bytes (fits_of (term_byte n)) k 1 (λ d. record { due = Action; count = d }) (λ d. rw one (inr refl)) (λ d. refl) (λ d b. prefix_due d b (is_action b)))
-      on_prefix false e f = on_restrict (nat_eq k 0x04) refl f e
+      on_prefix false e f = on_restrict (nat_eq k RESTRICTION) refl f e
 
-      on_nil : (c : Bool) → nat_eq k 0x00 ≡ c → IsSize (fits_of (term_byte n)) k (term_size k).own (term_size k).parts
+      on_nil : (c : Bool) → nat_eq k NIL ≡ c → IsSize (fits_of (term_byte n)) k (term_size k).own (term_size k).parts
       on_nil true e =
-          let zero : k ≡ 0x00 = eqb-true k 0x00 e in
+          let zero : k ≡ NIL = eqb-true k NIL e in
           rw e (one_byte (fits_of (term_byte n)) k 0 (λ d. rw (zero, none_more d) (inr refl)))
-      on_nil false e = on_prefix (nat_eq k 0x01) refl e
+      on_nil false e = on_prefix (nat_eq k PREFIX) refl e

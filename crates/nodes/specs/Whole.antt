@@ -1,7 +1,7 @@
 -- How far a string is one term or proof, by what is due behind each byte. Assumes nothing.
 use Rattle.std.specs.Prelude.{◌≡◌, ℕ, zero, suc, ◌+◌, ◌≤◌, Bool, false, [], ◌∷◌, Some, None, Ok, Err, Option, Result, ◌==◌, nat_lt, nat_le, length, take, drop, if◌then◌else◌}
 use Rattle.steps.specs.Meaning.{Str}
-use Rattle.nodes.specs.declared.scan.Due.TheVariants.{Node, Action, Name, Number}
+use Rattle.ccs.specs.declared.due.Due.TheVariants.{Node, Action, Name, Number}
 use Rattle.nodes.specs.declared.scan.Wanted.{Wanted}
 
 -- a byte makes at most one more due

@@ -4,14 +4,7 @@ ghost use Rattle.nodes.specs.declared.scan.Wanted.{Wanted};
 ghost use Rattle.byte_strings.specs.Lent.{pair_view};
 ghost use Rattle.nodes.specs.Whole.{at_most_one_more, done, whole, start, whole_fault, split_answer, IsSize};
 
-// What the next byte has to be: a node's first, or what belongs to the node before it.
-#[derive(Clone, Copy)]
-pub enum Due {
-    Node,
-    Action,
-    Name,
-    Number,
-}
+use ccs::due::Due;
 
 // What the next byte has to be, and how many terms or proofs are due; behind a node's first byte, one more.
 #[derive(Clone, Copy)]
@@ -20,16 +13,13 @@ pub struct Wanted {
     pub count: usize,
 }
 
-impl Due {
-    // With so many terms or proofs due.
-    pub(crate) fn of(self, count: usize) -> Wanted
-        ensures { result ≡ record { due = self; count = count } }
-    {
-        Wanted { due: self, count }
-    }
-}
-
 impl Wanted {
+    pub(crate) fn new(due: Due, count: usize) -> Wanted
+        ensures { result ≡ record { due = due; count = count } }
+    {
+        Wanted { due, count }
+    }
+
     // Whether nothing is due any more.
     fn done(self) -> bool
         ensures { result ≡ done self }

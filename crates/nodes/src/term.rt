@@ -2,14 +2,16 @@
 ghost use Rattle.std.specs.Prelude.{◌≡◌, suc, ◌+◌, ◌<◌, ◌≤◌, ◌^◌, Some, is_ok, IsTrue};
 ghost use Rattle.std.specs.Result.{result_err};
 ghost use Rattle.ccs.specs.Reading.{read_term, term_byte};
-ghost use Rattle.nodes.specs.declared.scan.Due.TheVariants.{Node};
+ghost use Rattle.ccs.specs.declared.due.Due.TheVariants.{Node};
 ghost use Rattle.nodes.specs.Whole.{at_most_one_more};
 ghost use Rattle.nodes.specs.Grammars.{fits_of, term_size};
 ghost use Rattle.nodes.specs.Nodes.{TermNode, TermsRead, node_of_term, term_view};
 ghost use Rattle.nodes.specs.Shapes.{term_shape, on_first};
 
-use crate::scan::{Due, Grammar, Size, Wanted, fault, split};
+use crate::scan::{Grammar, Size, Wanted, fault, split};
 use actions::action::{is_action, is_name};
+use ccs::due::Due;
+use ccs::node_bytes::{NIL, PREFIX, PARALLEL, SUM, RESTRICTION, CALL};
 
 // A node of a term, with its parts as they stand in the string.
 #[derive(Clone, Copy)]
@@ -36,9 +38,9 @@ impl Grammar for Terms {
         let Wanted { due, count } = wanted;
         match due {
             Due::Node if count > 0 => self.node_byte(count - 1, byte),
-            Due::Action if is_action(byte) => Some(Due::Node.of(count + 1)),
-            Due::Name if is_name(byte) => Some(Due::Node.of(count + 1)),
-            Due::Number if byte < self.definitions => Some(Due::Node.of(count)),
+            Due::Action if is_action(byte) => Some(Wanted::new(Due::Node, count + 1)),
+            Due::Name if is_name(byte) => Some(Wanted::new(Due::Node, count + 1)),
+            Due::Number if byte < self.definitions => Some(Wanted::new(Due::Node, count)),
             _ => None,
         }
     }
@@ -56,10 +58,10 @@ fn node_size(kind: u8) -> Size
     ensures short { result.own ≤ 2 }
 {
     match kind {
-        0x00 => Size { own: 1, parts: 0 },
-        0x01 => Size { own: 2, parts: 1 },
-        0x04 => Size { own: 2, parts: 1 },
-        0x05 => Size { own: 2, parts: 0 },
+        NIL => Size { own: 1, parts: 0 },
+        PREFIX => Size { own: 2, parts: 1 },
+        RESTRICTION => Size { own: 2, parts: 1 },
+        CALL => Size { own: 2, parts: 0 },
         _ => Size { own: 1, parts: 2 },
     }
 }
@@ -73,11 +75,11 @@ impl Terms {
         ensures few { at_most_one_more result (suc rest) }
     {
         match byte {
-            0x00 => Some(Due::Node.of(rest)),
-            0x01 => Some(Due::Action.of(rest)),
-            0x02 | 0x03 => Some(Due::Node.of(rest + 2)),
-            0x04 => Some(Due::Name.of(rest)),
-            0x05 => (self.definitions > 0).then_some(Due::Number.of(rest)),
+            NIL => Some(Wanted::new(Due::Node, rest)),
+            PREFIX => Some(Wanted::new(Due::Action, rest)),
+            PARALLEL | SUM => Some(Wanted::new(Due::Node, rest + 2)),
+            RESTRICTION => Some(Wanted::new(Due::Name, rest)),
+            CALL => (self.definitions > 0).then_some(Wanted::new(Due::Number, rest)),
             _ => None,
         }
     }
@@ -89,24 +91,24 @@ impl Terms {
     {
         let (kind, rest) = bytes.split_first()?;
         match *kind {
-            0x00 => Some(Term::Nil),
-            0x01 => {
+            NIL => Some(Term::Nil),
+            PREFIX => {
                 let (action, part) = rest.split_first()?;
                 Some(Term::Prefix(*action, part))
             }
-            0x02 => {
+            PARALLEL => {
                 let (first, second) = split(self, rest);
                 Some(Term::Par(first, second))
             }
-            0x03 => {
+            SUM => {
                 let (first, second) = split(self, rest);
                 Some(Term::Sum(first, second))
             }
-            0x04 => {
+            RESTRICTION => {
                 let (name, part) = rest.split_first()?;
                 Some(Term::Restrict(*name, part))
             }
-            0x05 => Some(Term::Call(*rest.first()?)),
+            CALL => Some(Term::Call(*rest.first()?)),
             _ => None,
         }
     }

@@ -20,6 +20,11 @@ abbrev pub onto : Sink → Option Str → Option Sink
 onto s (Some w) = Some (poured s w)
 onto s None = None
 
+-- what is in a sink that was lent: what is answered, or nothing that is told where there is no answer
+abbrev pub outcome : Option (Unit {0}) → Sink → Option Sink
+outcome (Some tt) s = Some s
+outcome None s = None
+
 -- all, where it is within a limit and a buffer of n bytes; else the length that is needed
 abbrev pub put_answer : Sink → ℕ → ℕ → Result Str ℕ
 put_answer s limit n = if nat_le s.len limit then (if nat_le (length s.kept) n then Ok s.kept else Err s.len) else Err s.len

@@ -25,27 +25,21 @@ impl Sink {
         }
     }
 
-    // With a byte written behind.
-    pub fn byte(self, byte: u8) -> Sink
-        ensures { result ≡ with_byte self byte }
+    // Writes a byte behind.
+    pub fn byte(&mut self, byte: u8)
+        ensures { self.new ≡ with_byte self.old byte }
     {
-        let Sink { mut kept, len } = self;
-        kept.push(byte);
-        Sink {
-            kept,
-            len: len.saturating_add(1),
-        }
+        self.kept.push(byte);
+        self.len = self.len.saturating_add(1);
     }
 
-    // With a string written behind.
-    pub fn bytes(self, text: &[u8]) -> Sink
-        ensures { result ≡ poured self text.now }
+    // Writes a string behind.
+    pub fn bytes(&mut self, text: &[u8])
+        ensures { self.new ≡ poured self.old text.now }
     {
-        let mut sink = self;
         for byte in text {
-            sink = sink.byte(*byte);
+            self.byte(*byte);
         }
-        sink
     }
 
     // Writes all over the front of a buffer and answers the length; the length that is needed, and the buffer as it was, where that is
