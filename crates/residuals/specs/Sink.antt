@@ -11,10 +11,9 @@ empty = record { kept = []; len = 0 }
 abbrev pub with_byte : Sink → ℕ → Sink
 with_byte s b = record { kept = take STATE_LIMIT (s.kept ++ b ∷ []); len = min (s.len + 1) 65535 }
 
--- a string is written, byte by byte
-unfoldable pub poured : Sink → Str → Sink
-poured s [] = s
-poured s (b ∷ w) = poured (with_byte s b) w
+-- a string is written behind it, likewise
+abbrev pub poured : Sink → Str → Sink
+poured s w = record { kept = take STATE_LIMIT (s.kept ++ w); len = min (s.len + length w) 65535 }
 
 -- what is answered of a string that may be: it is written behind what was
 abbrev pub onto : Sink → Option Str → Option Sink

@@ -38,9 +38,9 @@ impl Sink {
     pub fn bytes(&mut self, text: &[u8])
         ensures { self.new ≡ poured self.old text.now }
     {
-        for byte in text {
-            self.byte(*byte);
-        }
+        self.kept.append(text);
+        let more = u16::try_from(text.len()).unwrap_or(u16::MAX);
+        self.len = self.len.saturating_add(more);
     }
 
     // What was written, or the first bytes of it that are kept, where it is longer.

@@ -132,17 +132,17 @@ module _ (ds : List Term) where
       go (Ok p) (Err k) = refl
       go (Err k) z = refl
 
-  pub next_told_is : (a x : Str) (n : ℕ) (k : Sink) → Ok tt ≡ step_checked x → Ok tt ≡ state_checked ds a → Ok k ≡ onto_term empty (followed ds a x) → state_put k n ≡ next_answer (terms_transitions ds) a x n
+  pub next_told_is : (a x : Str) (n : ℕ) (k start : Sink) → Ok tt ≡ step_checked x → Ok tt ≡ state_checked ds a → start ≡ empty → Ok k ≡ onto_term start (followed ds a x) → state_put k n ≡ next_answer (terms_transitions ds) a x n
   unfolding onto_term
-  next_told_is a x n k e f g = go (followed ds a x) g ∙ sym (next_asked a x n e f)
+  next_told_is a x n k start e f s g = go (followed ds a x) (g ∙ ap (λ k. onto_term k (followed ds a x)) s) ∙ sym (next_asked a x n e f)
     where
       go : (r : Result Term ℕ) → Ok k ≡ onto_term empty r → state_put k n ≡ move_answer (spelled_term r) n
       go (Ok p) g = let same : k ≡ poured empty (term_bytes p) = cc g in ap (λ k. state_put k n) same ∙ state_put_is (term_bytes p) n
       go (Err j) g = absurd (cc g)
 
-  pub next_fault_is : (a x : Str) (n j : ℕ) → Ok tt ≡ step_checked x → Ok tt ≡ state_checked ds a → Err j ≡ onto_term empty (followed ds a x) → Err (Inner (Impossible j)) ≡ next_answer (terms_transitions ds) a x n
+  pub next_fault_is : (a x : Str) (n j : ℕ) (start : Sink) → Ok tt ≡ step_checked x → Ok tt ≡ state_checked ds a → start ≡ empty → Err j ≡ onto_term start (followed ds a x) → Err (Inner (Impossible j)) ≡ next_answer (terms_transitions ds) a x n
   unfolding onto_term
-  next_fault_is a x n j e f g = go (followed ds a x) g ∙ sym (next_asked a x n e f)
+  next_fault_is a x n j start e f s g = go (followed ds a x) (g ∙ ap (λ k. onto_term k (followed ds a x)) s) ∙ sym (next_asked a x n e f)
     where
       go : (r : Result Term ℕ) → Err j ≡ onto_term empty r → Err (Inner (Impossible j)) ≡ move_answer (spelled_term r) n
       go (Ok p) g = absurd (cc g)
@@ -153,22 +153,27 @@ module _ (ds : List Term) where
       not_refused (λ p. Inner (NoStep p)) ((terms_transitions ds).bad_step x) _ (unrefused NoStep _ e)
       ∙ not_refused (λ p. Inner (NoStep p)) ((terms_transitions ds).bad_step y) _ (unrefused NoStep _ f)
 
-  pub left_told_is : (x y : Str) (n : ℕ) (r : Option (Unit {0})) (k : Sink) → Ok tt ≡ step_checked x → Ok tt ≡ step_checked y → residuals.outcome r k ≡ onto empty (residual_of x y)
-      → fitting_step (cond (is_some r) (Some k.kept) None) n ≡ left_answer (terms_transitions ds) terms_independence x y n
-  left_told_is x y n r k e f g =
-      ap (λ o. fitting_step o n) (step_in r k (residual_of x y) (λ w. left_few (read_proof x) (read_proof y) w (checked_few x e) (checked_few y f)) g ∙ sym (left_is x y e f))
+  pub left_told_is : (x y : Str) (n : ℕ) (r : Option (Unit {0})) (k start : Sink) (answered : Bool) (s : Str) → Ok tt ≡ step_checked x → Ok tt ≡ step_checked y
+      → start ≡ empty → residuals.outcome r k ≡ onto start (residual_of x y) → answered ≡ is_some r → s ≡ k.kept
+      → fitting_step (cond answered (Some s) None) n ≡ left_answer (terms_transitions ds) terms_independence x y n
+  left_told_is x y n r k start answered s e f g h i j =
+      ap₂ (λ a s. fitting_step (cond a (Some s) None) n) i j
+      ∙ ap (λ o. fitting_step o n) (step_in r k (residual_of x y) (λ w. left_few (read_proof x) (read_proof y) w (checked_few x e) (checked_few y f)) (h ∙ ap (λ k. onto k (residual_of x y)) g) ∙ sym (left_is x y e f))
       ∙ sym (both_asked x y (fitting_step (terms_independence.left x y) n) e f)
 
-  pub back_told_is : (x z : Str) (n : ℕ) (r : Option (Unit {0})) (k : Sink) → Ok tt ≡ step_checked x → Ok tt ≡ step_checked z → residuals.outcome r k ≡ onto empty (origin_of x z)
-      → fitting_step (cond (is_some r) (Some k.kept) None) n ≡ back_answer (terms_transitions ds) terms_independence x z n
-  back_told_is x z n r k e f g =
-      ap (λ o. fitting_step o n) (step_in r k (origin_of x z) (λ w. back_few (read_proof x) (read_proof z) w (checked_few x e) (checked_few z f)) g ∙ sym (back_is x z e f))
+  pub back_told_is : (x z : Str) (n : ℕ) (r : Option (Unit {0})) (k start : Sink) (answered : Bool) (s : Str) → Ok tt ≡ step_checked x → Ok tt ≡ step_checked z
+      → start ≡ empty → residuals.outcome r k ≡ onto start (origin_of x z) → answered ≡ is_some r → s ≡ k.kept
+      → fitting_step (cond answered (Some s) None) n ≡ back_answer (terms_transitions ds) terms_independence x z n
+  back_told_is x z n r k start answered s e f g h i j =
+      ap₂ (λ a s. fitting_step (cond a (Some s) None) n) i j
+      ∙ ap (λ o. fitting_step o n) (step_in r k (origin_of x z) (λ w. back_few (read_proof x) (read_proof z) w (checked_few x e) (checked_few z f)) (h ∙ ap (λ k. onto k (origin_of x z)) g) ∙ sym (back_is x z e f))
       ∙ sym (both_asked x z (fitting_step (terms_independence.back x z) n) e f)
 
   -- they are independent where something is left
-  pub independent_is : (x y : Str) (r : Option (Unit {0})) (k : Sink) → Ok tt ≡ step_checked x → Ok tt ≡ step_checked y → residuals.outcome r k ≡ onto empty (residual_of x y)
+  pub independent_is : (x y : Str) (r : Option (Unit {0})) (k start : Sink) → Ok tt ≡ step_checked x → Ok tt ≡ step_checked y → start ≡ empty → residuals.outcome r k ≡ onto start (residual_of x y)
       → Ok (is_some r) ≡ independent_answer (terms_transitions ds) terms_independence x y
-  independent_is x y r k e f g = ap Ok (go r (residual_of x y) g ∙ ap is_some (sym (left_is x y e f))) ∙ sym (both_asked x y (Ok (is_some (terms_independence.left x y))) e f)
+  independent_is x y r k start e f g h =
+      ap Ok (go r (residual_of x y) (h ∙ ap (λ k. onto k (residual_of x y)) g) ∙ ap is_some (sym (left_is x y e f))) ∙ sym (both_asked x y (Ok (is_some (terms_independence.left x y))) e f)
     where
       go : (r : Option (Unit {0})) (o : Option Str) → residuals.outcome r k ≡ onto empty o → is_some r ≡ is_some o
       go None None e = refl

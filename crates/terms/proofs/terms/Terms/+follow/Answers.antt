@@ -12,8 +12,8 @@ pub returns-in_err-left-in-Left-clause-answer : goal.returns-in_err-left-in-Left
 returns-in_err-left-in-Left-clause-answer t c =
     search (rules, follow_is (terms_of c.args.self.now) c.args.self.now.count (length_terms c.args.self.now.count c.args.self.now.bodies c.args.self.now.few) c.args.term.now c.args.step.now c.unfolded-node.ensures.node c.of.ensures.node c.args.sink.now)
 
-pub returns-in_err-moved-in-Left-clause-answer : goal.returns-in_err-moved-in-Left-clause-answer
-returns-in_err-moved-in-Left-clause-answer t c =
+pub returns-in_err-further-in-Left-clause-answer : goal.returns-in_err-further-in-Left-clause-answer
+returns-in_err-further-in-Left-clause-answer t c =
     search (rules, follow_is (terms_of c.args.self.now) c.args.self.now.count (length_terms c.args.self.now.count c.args.self.now.bodies c.args.self.now.few) c.args.term.now c.args.step.now c.unfolded-node.ensures.node c.of.ensures.node c.args.sink.now)
 
 pub returns-in_err-left-in-Right-clause-answer : goal.returns-in_err-left-in-Right-clause-answer
@@ -24,8 +24,8 @@ pub returns-in_err-left-in-Both-clause-answer : goal.returns-in_err-left-in-Both
 returns-in_err-left-in-Both-clause-answer t c =
     search (rules, follow_is (terms_of c.args.self.now) c.args.self.now.count (length_terms c.args.self.now.count c.args.self.now.bodies c.args.self.now.few) c.args.term.now c.args.step.now c.unfolded-node.ensures.node c.of.ensures.node c.args.sink.now)
 
-pub returns-in_err-moved-in-Both-clause-answer : goal.returns-in_err-moved-in-Both-clause-answer
-returns-in_err-moved-in-Both-clause-answer t c =
+pub returns-in_err-further-in-Both-clause-answer : goal.returns-in_err-further-in-Both-clause-answer
+returns-in_err-further-in-Both-clause-answer t c =
     search (rules, follow_is (terms_of c.args.self.now) c.args.self.now.count (length_terms c.args.self.now.count c.args.self.now.bodies c.args.self.now.few) c.args.term.now c.args.step.now c.unfolded-node.ensures.node c.of.ensures.node c.args.sink.now)
 
 pub returns-in_err-left-in-ChooseLeft-clause-answer : goal.returns-in_err-left-in-ChooseLeft-clause-answer
@@ -44,16 +44,16 @@ pub returns-in_ok-rest-in-Act-clause-answer : goal.returns-in_ok-rest-in-Act-cla
 returns-in_ok-rest-in-Act-clause-answer t c =
     search (rules, follow_is (terms_of c.args.self.now) c.args.self.now.count (length_terms c.args.self.now.count c.args.self.now.bodies c.args.self.now.few) c.args.term.now c.args.step.now c.unfolded-node.ensures.node c.of.ensures.node c.args.sink.now)
 
-pub returns-in_ok-moved-in-Left-clause-answer : goal.returns-in_ok-moved-in-Left-clause-answer
-returns-in_ok-moved-in-Left-clause-answer t c =
+pub returns-in_ok-further-in-Left-clause-answer : goal.returns-in_ok-further-in-Left-clause-answer
+returns-in_ok-further-in-Left-clause-answer t c =
     search (rules, follow_is (terms_of c.args.self.now) c.args.self.now.count (length_terms c.args.self.now.count c.args.self.now.bodies c.args.self.now.few) c.args.term.now c.args.step.now c.unfolded-node.ensures.node c.of.ensures.node c.args.sink.now)
 
 pub returns-in_ok-left-in-Right-clause-answer : goal.returns-in_ok-left-in-Right-clause-answer
 returns-in_ok-left-in-Right-clause-answer t c =
     search (rules, follow_is (terms_of c.args.self.now) c.args.self.now.count (length_terms c.args.self.now.count c.args.self.now.bodies c.args.self.now.few) c.args.term.now c.args.step.now c.unfolded-node.ensures.node c.of.ensures.node c.args.sink.now)
 
-pub returns-in_ok-moved-in-Both-clause-answer : goal.returns-in_ok-moved-in-Both-clause-answer
-returns-in_ok-moved-in-Both-clause-answer t c =
+pub returns-in_ok-further-in-Both-clause-answer : goal.returns-in_ok-further-in-Both-clause-answer
+returns-in_ok-further-in-Both-clause-answer t c =
     search (rules, follow_is (terms_of c.args.self.now) c.args.self.now.count (length_terms c.args.self.now.count c.args.self.now.bodies c.args.self.now.few) c.args.term.now c.args.step.now c.unfolded-node.ensures.node c.of.ensures.node c.args.sink.now)
 
 pub returns-in_ok-left-in-ChooseLeft-clause-answer : goal.returns-in_ok-left-in-ChooseLeft-clause-answer
