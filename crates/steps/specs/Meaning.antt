@@ -1,4 +1,4 @@
--- What a step system means, on byte strings of any length. Assumes nothing.
+-- What a step system means, on byte strings of any length.
 use Rattle.std.specs.Prelude.{ℕ, Bool, Option, Result}
 pub use Rattle.byte_strings.specs.Buffer.{Str}
 use Rattle.steps.specs.declared.label.Label.{Label}
