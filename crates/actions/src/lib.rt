@@ -5,3 +5,6 @@
 pub mod action;
 pub mod names;
 pub mod pairs;
+
+pub use names::{NAME_LIMIT, NameFault, Names};
+pub use pairs::{PAIR_LIMIT, Pair, PairFault, Pairs};

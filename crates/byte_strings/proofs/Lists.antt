@@ -1,7 +1,10 @@
 -- Items over blank places, and one more behind them. Assumes nothing.
-use Rattle.std.proofs.Common.{◌≡◌, ℕ, ◌+◌, ◌-◌, ◌<◌, ◌≤◌, List, [], ◌∷◌, ◌++◌, length, take, drop, replicate, slice_set, refl, ap, sym, ◌∙◌, arith, length-append, length-drop}
+use Rattle.std.proofs.Common.{◌≡◌, ℕ, ◌+◌, ◌-◌, ◌<◌, ◌≤◌, min, List, [], ◌∷◌, ◌++◌, length, take, drop, replicate, slice_set, refl, ap, sym, ◌∙◌, arith, length-append, length-drop}
+use borrow.Rule.Slice.PartMut.{put_mid}
 use lib.ListN.{length-replicate}
-use Rattle.std.proofs.lemmas.List.{take_all, drop_at, drop-replicate, drop-drop, drop-set-lt, length-set}
+use Rattle.std.proofs.Math.Seq.{take-append-add}
+use Rattle.std.proofs.lemmas.Slice.{take-put_mid, drop-put_mid}
+use Rattle.std.proofs.lemmas.List.{take_all, take_min, take-append-drop, length-take-le, replicate-append-replicate, drop_at, drop-replicate, drop-drop, drop-set-lt, length-set}
 
 -- items over blank places are held
 pub holds : {A : Type 0} (items : List A) (n : ℕ) (blank : A) → length items ≤ n
@@ -25,3 +28,47 @@ holds_more places n len item blank long clear room =
 -- an item behind those of a list that has room
 pub pushed : {A : Type 0} (n : ℕ) (items : List A) (item : A) → length items < n → take n (items ++ item ∷ []) ≡ items ++ item ∷ []
 pushed n items item room = take_all n (items ++ item ∷ []) (omega (arith, length-append items (item ∷ []), room))
+
+-- items written behind those of a list
+pub holds_written : {A : Type 0} (places items written : List A) (n len more : ℕ) (blank : A)
+    → len ≤ n → length places ≡ n → drop len places ≡ replicate (n - len) blank → more ≡ min (length items) (n - len) → written ≡ take more items
+    → (len + more ≤ n) × (length (put_mid len (len + more - len) places written) ≡ n)
+    × (drop (len + more) (put_mid len (len + more - len) places written) ≡ replicate (n - (len + more)) blank)
+holds_written {A} places items written n len more blank few long clear count wrote =
+    let room : len + more ≤ n = omega arith in
+    let size : length written ≡ more = ap length wrote ∙ length-take-le more items (omega arith) in
+    let all : List A = put_mid len (len + more - len) places written in
+    let front : take (len + more) all ≡ take len places ++ written = take-put_mid len (len + more - len) places written (len + more) (omega arith) (omega arith) in
+    let rest : drop (len + more) all ≡ replicate (n - (len + more)) blank =
+    drop-put_mid len (len + more - len) places written (len + more) (omega arith) (omega arith) (omega arith)
+    ∙ sym (drop-drop more len places) ∙ ap (drop more) clear ∙ drop-replicate more (n - len) blank
+    ∙ ap (λ k. replicate k blank) (let same : n - len - more ≡ n - (len + more) = omega arith in same) in (
+      room,
+      ap length (sym (take-append-drop (len + more) all)) ∙ length-append (take (len + more) all) (drop (len + more) all)
+          ∙ ap (λ l. length l + length (drop (len + more) all)) front ∙ ap (λ l. length (take len places ++ written) + length l) rest
+          ∙ simp (length-append, length-replicate) (omega (arith, length-take-le len places (omega (arith, long, room)), size, room)),
+      rest,
+    )
+
+-- they are as many of the given items as have room
+pub appended : {A : Type 0} (places items written : List A) (n len more : ℕ)
+    → len ≤ n → length places ≡ n → more ≡ min (length items) (n - len) → written ≡ take more items
+    → take (len + more) (put_mid len (len + more - len) places written) ≡ take n (take len places ++ items)
+appended places items written n len more few long count wrote =
+    let size : length (take len places) ≡ len = length-take-le len places (omega arith) in
+    let fits : more ≡ min (n - len) (length items) = omega arith in
+    let many : length written ≡ more = ap length wrote ∙ length-take-le more items (omega arith) in
+    take-put_mid len (len + more - len) places written (len + more) (omega arith) (omega arith)
+    ∙ ap (λ w. take len places ++ w) (wrote ∙ ap (λ k. take k items) fits ∙ take_min (n - len) items)
+    ∙ sym (take-append-add (take len places) items (n - len))
+    ∙ ap (λ k. take k (take len places ++ items)) (omega arith)
+
+-- a list whose items were blanked holds nothing
+pub holds_nothing : {A : Type 0} (places filled : List A) (n len : ℕ) (blank : A)
+    → len ≤ n → length places ≡ n → drop len places ≡ replicate (n - len) blank → filled ≡ replicate (length (take len places)) blank
+    → (0 ≤ n) × (length (filled ++ drop len places) ≡ n) × (filled ++ drop len places ≡ replicate (n - 0) blank)
+holds_nothing places filled n len blank few long clear blanked =
+    let all : filled ++ drop len places ≡ replicate (n - 0) blank =
+    ap (λ l. l ++ drop len places) (blanked ∙ ap (λ k. replicate k blank) (length-take-le len places (omega arith)))
+    ∙ ap (λ l. replicate len blank ++ l) clear ∙ replicate-append-replicate len (n - len) blank ∙ ap (λ k. replicate k blank) (omega arith) in
+    (omega arith, ap length all ∙ length-replicate (n - 0) blank ∙ omega arith, all)

@@ -5,3 +5,5 @@
 pub mod buffer;
 pub mod held;
 pub mod list;
+
+pub use list::{Blank, FixedList, Held};

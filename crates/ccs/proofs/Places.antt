@@ -7,8 +7,9 @@ use Rattle.std.specs.Result.{result_err}
 use Rattle.steps.specs.Meaning.{Str}
 use Rattle.ccs.specs.Syntax.{Term, Proof}
 use Rattle.ccs.specs.Spelling.{term_bytes, proof_bytes, sound_term, sound_proof}
-use Rattle.ccs.specs.Reading.{Due, Next, read, term_byte, proof_byte, only, read_term, read_proof}
-use Rattle.ccs.specs.Reading.Due.{node}
+use Rattle.ccs.specs.declared.due.Due.{Due}
+use Rattle.ccs.specs.Reading.{Next, read, term_byte, proof_byte, only, read_term, read_proof}
+use Rattle.ccs.specs.declared.due.Due.TheVariants.{Node}
 use Rattle.ccs.specs.Beginning.{IsTerm, IsProof, LongestBeginning}
 use Rattle.ccs.specs.First.{FirstIf}
 use Rattle.ccs.specs.Improper.{ImproperAt, or_else}
@@ -60,18 +61,18 @@ module _ (Is : Str → Type 0) (l : ℕ) (s : Str) where
 
 -- what is read is told of, cut at a limit
 module _ {A : Type 0} (Is : Str → Type 0) (byte : Due → ℕ → ℕ → Option (Next A))
-    (is_read : (s : Str) → Is s → (x : A) × read byte node 1 s ≡ Ok (x ∷ []))
-    (read_is : (s : Str) (xs : List A) → read byte node 1 s ≡ Ok xs → Is s)
-    (begins : (s : Str) → Begins byte node 1 s (read byte node 1 s))
+    (is_read : (s : Str) → Is s → (x : A) × read byte Node 1 s ≡ Ok (x ∷ []))
+    (read_is : (s : Str) (xs : List A) → read byte Node 1 s ≡ Ok xs → Is s)
+    (begins : (s : Str) → Begins byte Node 1 s (read byte Node 1 s))
     (l : ℕ) (s : Str) where
-  pub place : (p : ℕ) → past l s (result_err (only (read byte node 1 s))) ≡ Some p → (Is s × (length s ≤ l) → ⊥) × LongestBeginning Is (take l s) p
-  place p e = go (read byte node 1 s) refl e
+  pub place : (p : ℕ) → past l s (result_err (only (read byte Node 1 s))) ≡ Some p → (Is s × (length s ≤ l) → ⊥) × LongestBeginning Is (take l s) p
+  place p e = go (read byte Node 1 s) refl e
     where
       fits : (b : Bool) → nat_le (length s) l ≡ b → cond b None (Some l) ≡ Some p → (l < length s) × (l ≡ p)
       fits true f e = absurd (cc e)
       fits false f e = (not_le (length s) l f, cc e)
 
-      go : (r : Result (List A) ℕ) → read byte node 1 s ≡ r → past l s (result_err (only r)) ≡ Some p → (Is s × (length s ≤ l) → ⊥) × LongestBeginning Is (take l s) p
+      go : (r : Result (List A) ℕ) → read byte Node 1 s ≡ r → past l s (result_err (only r)) ≡ Some p → (Is s × (length s ≤ l) → ⊥) × LongestBeginning Is (take l s) p
       go (Ok []) r e = let is = is_read s (read_is s [] r) in absurd (cc (sym r ∙ is.1))
       go (Ok (x ∷ xs)) r e =
           let f = fits (nat_le (length s) l) refl e in
@@ -80,15 +81,15 @@ module _ {A : Type 0} (Is : Str → Type 0) (byte : Due → ℕ → ℕ → Opti
 
 -- of terms
 module _ (n : ℕ) where
-  term_read : (s : Str) → IsTerm n s → (p : Term) × read (term_byte n) node 1 s ≡ Ok (p ∷ [])
+  term_read : (s : Str) → IsTerm n s → (p : Term) × read (term_byte n) Node 1 s ≡ Ok (p ∷ [])
   unfolding read
-  term_read s h = (h.0, ap (read (term_byte n) node 1) (sym (append-nil _ ∙ h.1)) ∙ terms.reads_term n h.0 h.2 0 [] [] refl)
+  term_read s h = (h.0, ap (read (term_byte n) Node 1) (sym (append-nil _ ∙ h.1)) ∙ terms.reads_term n h.0 h.2 0 [] [] refl)
 
-  is_term : (s : Str) (ps : List Term) → read (term_byte n) node 1 s ≡ Ok ps → IsTerm n s
+  is_term : (s : Str) (ps : List Term) → read (term_byte n) Node 1 s ≡ Ok ps → IsTerm n s
   is_term s ps e = one_read term_bytes (sound_term n) terms.opening (term_byte n) refl (terms.byte_keeps n) s ps e
 
-  begins_term : (s : Str) → Begins (term_byte n) node 1 s (read (term_byte n) node 1 s)
-  begins_term s = begins (term_byte n) (terms.Alive n) (terms.alive_on n) (terms.ending n) node 1 s tt
+  begins_term : (s : Str) → Begins (term_byte n) Node 1 s (read (term_byte n) Node 1 s)
+  begins_term s = begins (term_byte n) (terms.Alive n) (terms.alive_on n) (terms.ending n) Node 1 s tt
 
   -- of a string that is no term within a limit, the longest beginning within it is told
   pub term_place : (l : ℕ) (s : Str) (p : ℕ) → past l s (result_err (read_term n s)) ≡ Some p → (IsTerm n s × (length s ≤ l) → ⊥) × LongestBeginning (IsTerm n) (take l s) p
@@ -98,15 +99,15 @@ pub state_places : StatePlaces
 state_places ds s p e = (term_place (length ds) 256 s p e).1
 
 -- of proofs
-proof_read : (s : Str) → IsProof s → (t : Proof) × read proof_byte node 1 s ≡ Ok (t ∷ [])
+proof_read : (s : Str) → IsProof s → (t : Proof) × read proof_byte Node 1 s ≡ Ok (t ∷ [])
 unfolding read
-proof_read s h = (h.0, ap (read proof_byte node 1) (sym (append-nil _ ∙ h.1)) ∙ proofs.reads_proof h.0 h.2 0 [] [] refl)
+proof_read s h = (h.0, ap (read proof_byte Node 1) (sym (append-nil _ ∙ h.1)) ∙ proofs.reads_proof h.0 h.2 0 [] [] refl)
 
-is_proof : (s : Str) (ts : List Proof) → read proof_byte node 1 s ≡ Ok ts → IsProof s
+is_proof : (s : Str) (ts : List Proof) → read proof_byte Node 1 s ≡ Ok ts → IsProof s
 is_proof s ts e = one_read proof_bytes sound_proof proofs.opening proof_byte refl proofs.byte_keeps s ts e
 
-begins_proof : (s : Str) → Begins proof_byte node 1 s (read proof_byte node 1 s)
-begins_proof s = begins proof_byte proofs.Alive proofs.alive_on proofs.ending node 1 s tt
+begins_proof : (s : Str) → Begins proof_byte Node 1 s (read proof_byte Node 1 s)
+begins_proof s = begins proof_byte proofs.Alive proofs.alive_on proofs.ending Node 1 s tt
 
 pub step_places : StepPlaces
 step_places ds x p e = go (past 64 x (result_err (read_proof x))) refl e

@@ -6,42 +6,43 @@ use Rattle.ccs.specs.Syntax.{Proof}
 use Rattle.ccs.specs.Syntax.Proof.{act, on_left, on_right, both, choose_left, choose_right, under}
 use Rattle.actions.specs.Action.{is_name, is_action}
 use Rattle.ccs.specs.Spelling.{proof_bytes, sound_proof}
-use Rattle.ccs.specs.Reading.{Due, Next, read, around, proof_byte, only, read_proof}
-use Rattle.ccs.specs.Reading.Due.{node, action, name, number}
+use Rattle.ccs.specs.declared.due.Due.{Due}
+use Rattle.ccs.specs.Reading.{Next, read, around, proof_byte, only, read_proof}
+use Rattle.ccs.specs.declared.due.Due.TheVariants.{Node, Action, Name, Number}
 use Rattle.ccs.proofs.Cases.{cond_case, both_of}
 use Rattle.ccs.proofs.Spelled.{Keeps, keeps_alone, keeps_part, keeps_parts, keeps_before, read_one}
 
 -- the byte that opened the first proof, where what belongs to it is due
 abbrev pub opening : Due → Str
-opening node = []
-opening action = 0x10 ∷ []
-opening name = 0x16 ∷ []
-opening number = []
+opening Node = []
+opening Action = 0x10 ∷ []
+opening Name = 0x16 ∷ []
+opening Number = []
 
 abbrev Kept : Due → ℕ → ℕ → Option (Next Proof) → Type 0
 Kept = Keeps proof_bytes sound_proof opening
 
-part : (f : Proof → Proof) (k b c : ℕ) → ((t : Proof) → sound_proof t ≡ true → sound_proof (f t) ≡ true) → ((t : Proof) → proof_bytes (f t) ≡ c ∷ proof_bytes t) → nat_eq b c ≡ true → Kept node (suc k) b (Some (record { due = node; count = suc k; build = around f }))
-part f k b c e g h = keeps_part proof_bytes sound_proof opening f node k (suc k) b refl refl e (λ t. g t ∙ ap (◌∷ proof_bytes t) (sym (eqb-true b c h)))
+part : (f : Proof → Proof) (k b c : ℕ) → ((t : Proof) → sound_proof t ≡ true → sound_proof (f t) ≡ true) → ((t : Proof) → proof_bytes (f t) ≡ c ∷ proof_bytes t) → nat_eq b c ≡ true → Kept Node (suc k) b (Some (record { due = Node; count = suc k; build = around f }))
+part f k b c e g h = keeps_part proof_bytes sound_proof opening f Node k (suc k) b refl refl e (λ t. g t ∙ ap (◌∷ proof_bytes t) (sym (eqb-true b c h)))
 
 pub byte_keeps : (d : Due) (k b : ℕ) → Kept d k b (proof_byte d k b)
 unfolding proof_byte proof_bytes sound_proof
-byte_keeps node zero b = tt
-byte_keeps node (suc k) b =
-    cond_case (Kept node (suc k) b) (nat_eq b 0x10) _ _ (λ e. keeps_before proof_bytes sound_proof opening action node k (suc k) b refl (λ s. ap (◌∷ s) (sym (eqb-true b 0x10 e))))
-    (λ _. cond_case (Kept node (suc k) b) (nat_eq b 0x11) _ _ (part on_left k b 0x11 (λ t e. e) (λ t. refl))
-    (λ _. cond_case (Kept node (suc k) b) (nat_eq b 0x12) _ _ (part on_right k b 0x12 (λ t e. e) (λ t. refl))
-    (λ _. cond_case (Kept node (suc k) b) (nat_eq b 0x13) _ _ (λ e. keeps_parts proof_bytes sound_proof opening both node k (suc k) b refl refl (λ t u f g. rw (f, g) refl) (λ t u. ap (◌∷ (proof_bytes t ++ proof_bytes u)) (sym (eqb-true b 0x13 e))))
-    (λ _. cond_case (Kept node (suc k) b) (nat_eq b 0x14) _ _ (part choose_left k b 0x14 (λ t e. e) (λ t. refl))
-    (λ _. cond_case (Kept node (suc k) b) (nat_eq b 0x15) _ _ (part choose_right k b 0x15 (λ t e. e) (λ t. refl))
-    (λ _. cond_case (Kept node (suc k) b) (nat_eq b 0x16) _ _ (λ e. keeps_before proof_bytes sound_proof opening name node k (suc k) b refl (λ s. ap (◌∷ s) (sym (eqb-true b 0x16 e))))
+byte_keeps Node zero b = tt
+byte_keeps Node (suc k) b =
+    cond_case (Kept Node (suc k) b) (nat_eq b 0x10) _ _ (λ e. keeps_before proof_bytes sound_proof opening Action Node k (suc k) b refl (λ s. ap (◌∷ s) (sym (eqb-true b 0x10 e))))
+    (λ _. cond_case (Kept Node (suc k) b) (nat_eq b 0x11) _ _ (part on_left k b 0x11 (λ t e. e) (λ t. refl))
+    (λ _. cond_case (Kept Node (suc k) b) (nat_eq b 0x12) _ _ (part on_right k b 0x12 (λ t e. e) (λ t. refl))
+    (λ _. cond_case (Kept Node (suc k) b) (nat_eq b 0x13) _ _ (λ e. keeps_parts proof_bytes sound_proof opening both Node k (suc k) b refl refl (λ t u f g. rw (f, g) refl) (λ t u. ap (◌∷ (proof_bytes t ++ proof_bytes u)) (sym (eqb-true b 0x13 e))))
+    (λ _. cond_case (Kept Node (suc k) b) (nat_eq b 0x14) _ _ (part choose_left k b 0x14 (λ t e. e) (λ t. refl))
+    (λ _. cond_case (Kept Node (suc k) b) (nat_eq b 0x15) _ _ (part choose_right k b 0x15 (λ t e. e) (λ t. refl))
+    (λ _. cond_case (Kept Node (suc k) b) (nat_eq b 0x16) _ _ (λ e. keeps_before proof_bytes sound_proof opening Name Node k (suc k) b refl (λ s. ap (◌∷ s) (sym (eqb-true b 0x16 e))))
     (λ _. tt)))))))
-byte_keeps action k a = cond_case (Kept action k a) (is_action a) _ _ (λ e. keeps_alone proof_bytes sound_proof opening (act a) action k k a refl e (λ s. refl)) (λ _. tt)
-byte_keeps name k m = cond_case (Kept name k m) (is_name m) _ _ (λ e. keeps_part proof_bytes sound_proof opening (under m) name k k m refl refl (λ t f. rw (e, f) refl) (λ t. refl)) (λ _. tt)
-byte_keeps number k d = tt
+byte_keeps Action k a = cond_case (Kept Action k a) (is_action a) _ _ (λ e. keeps_alone proof_bytes sound_proof opening (act a) Action k k a refl e (λ s. refl)) (λ _. tt)
+byte_keeps Name k m = cond_case (Kept Name k m) (is_name m) _ _ (λ e. keeps_part proof_bytes sound_proof opening (under m) Name k k m refl refl (λ t f. rw (e, f) refl) (λ t. refl)) (λ _. tt)
+byte_keeps Number k d = tt
 
 -- a spelled proof is read, and what is read behind it stays
-pub reads_proof : (t : Proof) → sound_proof t ≡ true → (k : ℕ) (s : Str) (ts : List Proof) → read proof_byte node k s ≡ Ok ts → read proof_byte node (suc k) (proof_bytes t ++ s) ≡ Ok (t ∷ ts)
+pub reads_proof : (t : Proof) → sound_proof t ≡ true → (k : ℕ) (s : Str) (ts : List Proof) → read proof_byte Node k s ≡ Ok ts → read proof_byte Node (suc k) (proof_bytes t ++ s) ≡ Ok (t ∷ ts)
 unfolding proof_byte proof_bytes sound_proof read
 reads_proof (act a) e k s ts h = rw (e, h) refl
 reads_proof (on_left t) e k s ts h = rw (reads_proof t e k s ts h) refl
@@ -59,14 +60,14 @@ read_is_proof = read_one proof_bytes sound_proof opening proof_byte refl byte_ke
 
 pub proof_is_read : (t : Proof) → sound_proof t ≡ true → read_proof (proof_bytes t) ≡ Ok t
 unfolding read
-proof_is_read t e = ap only (ap (read proof_byte node 1) (sym (append-nil (proof_bytes t))) ∙ reads_proof t e 0 [] [] refl)
+proof_is_read t e = ap only (ap (read proof_byte Node 1) (sym (append-nil (proof_bytes t))) ∙ reads_proof t e 0 [] [] refl)
 
 -- whatever is due, some string ends it; a number never is
 abbrev pub Alive : Due → ℕ → Type 0
-Alive node k = Unit {0}
-Alive action k = Unit {0}
-Alive name k = Unit {0}
-Alive number k = ⊥
+Alive Node k = Unit {0}
+Alive Action k = Unit {0}
+Alive Name k = Unit {0}
+Alive Number k = ⊥
 
 AliveNext : Option (Next Proof) → Type 0
 AliveNext None = Unit {0}
@@ -74,8 +75,8 @@ AliveNext (Some x) = Alive x.due x.count
 
 alive_next : (d : Due) (k b : ℕ) → AliveNext (proof_byte d k b)
 unfolding proof_byte AliveNext
-alive_next node zero b = tt
-alive_next node (suc k) b =
+alive_next Node zero b = tt
+alive_next Node (suc k) b =
     cond_case AliveNext (nat_eq b 0x10) _ _ (λ _. tt)
     (λ _. cond_case AliveNext (nat_eq b 0x11) _ _ (λ _. tt)
     (λ _. cond_case AliveNext (nat_eq b 0x12) _ _ (λ _. tt)
@@ -83,9 +84,9 @@ alive_next node (suc k) b =
     (λ _. cond_case AliveNext (nat_eq b 0x14) _ _ (λ _. tt)
     (λ _. cond_case AliveNext (nat_eq b 0x15) _ _ (λ _. tt)
     (λ _. cond_case AliveNext (nat_eq b 0x16) _ _ (λ _. tt) (λ _. tt)))))))
-alive_next action k a = cond_case AliveNext (is_action a) _ _ (λ _. tt) (λ _. tt)
-alive_next name k m = cond_case AliveNext (is_name m) _ _ (λ _. tt) (λ _. tt)
-alive_next number k d = tt
+alive_next Action k a = cond_case AliveNext (is_action a) _ _ (λ _. tt) (λ _. tt)
+alive_next Name k m = cond_case AliveNext (is_name m) _ _ (λ _. tt) (λ _. tt)
+alive_next Number k d = tt
 
 pub alive_on : (d : Due) (k b : ℕ) (x : Next Proof) → proof_byte d k b ≡ Some x → Alive d k → Alive x.due x.count
 unfolding AliveNext
@@ -95,14 +96,14 @@ acts : ℕ → List Proof
 acts zero = []
 acts (suc k) = act 0 ∷ acts k
 
-silent : (k : ℕ) → (r : Str) × read proof_byte node k r ≡ Ok (acts k)
+silent : (k : ℕ) → (r : Str) × read proof_byte Node k r ≡ Ok (acts k)
 unfolding proof_byte read acts proof_bytes sound_proof
 silent zero = ([], refl)
 silent (suc k) = let z = silent k in (0x10 ∷ 0 ∷ z.0, reads_proof (act 0) refl k z.0 (acts k) z.1)
 
 pub ending : (d : Due) (k : ℕ) → Alive d k → (r : Str) × (ts : List Proof) × read proof_byte d k r ≡ Ok ts
 unfolding proof_byte read
-ending node k a = let z = silent k in (z.0, acts k, z.1)
-ending action k a = let z = silent k in (0 ∷ z.0, act 0 ∷ acts k, rw z.1 refl)
-ending name k a = let z = silent (suc k) in (1 ∷ z.0, around (under 1) (acts (suc k)), rw z.1 refl)
-ending number k a = absurd a
+ending Node k a = let z = silent k in (z.0, acts k, z.1)
+ending Action k a = let z = silent k in (0 ∷ z.0, act 0 ∷ acts k, rw z.1 refl)
+ending Name k a = let z = silent (suc k) in (1 ∷ z.0, around (under 1) (acts (suc k)), rw z.1 refl)
+ending Number k a = absurd a

@@ -1,7 +1,8 @@
 -- What reading bytes answers, for terms and for proofs alike. Assumes nothing.
 use Rattle.std.proofs.Common.{◌≡◌, ℕ, suc, ◌≤◌, ◌<◌, Bool, true, false, cond, List, [], ◌∷◌, ◌++◌, length, take, Some, None, Ok, Err, Option, Result, refl, ap, ◌∙◌, arith}
 use Rattle.steps.specs.Meaning.{Str}
-use Rattle.ccs.specs.Reading.{Due, Next, finished, behind, onward, read}
+use Rattle.ccs.specs.declared.due.Due.{Due}
+use Rattle.ccs.specs.Reading.{Next, finished, behind, onward, read}
 
 -- what holds of an answer, where it is a list
 abbrev pub HoldsOf : {A : Type 0} → (Due → ℕ → Str → List A → Type 0) → Due → ℕ → Str → Result (List A) ℕ → Type 0

@@ -1,17 +1,13 @@
 -- Reading bytes: the terms or proofs that they are, or the first byte that fits none. Assumes nothing.
 use Rattle.std.specs.Prelude.{ℕ, zero, suc, Bool, true, false, ◌&&◌, List, [], ◌∷◌, Some, None, Ok, Err, Option, Result, nat_eq, nat_le, nat_lt, if◌then◌else◌}
 use Rattle.steps.specs.Meaning.{Str}
+use Rattle.ccs.specs.declared.node_bytes.TheConstants.{NIL, PREFIX, PARALLEL, SUM, RESTRICTION, CALL, ACT, LEFT, RIGHT, BOTH, CHOOSE_LEFT, CHOOSE_RIGHT, UNDER}
+use Rattle.ccs.specs.declared.due.Due.{Due}
+use Rattle.ccs.specs.declared.due.Due.TheVariants.{Node, Action, Name, Number}
 use Rattle.ccs.specs.Syntax.{Term, Proof}
 use Rattle.ccs.specs.Syntax.Term.{nil, prefix, par, sum, restrict, call}
 use Rattle.ccs.specs.Syntax.Proof.{act, on_left, on_right, both, choose_left, choose_right, under}
 use Rattle.actions.specs.Action.{is_name, is_action}
-
--- what the next byte has to be: a node's, or what belongs to the node before it
-pub data Due : Type 0 where
-  node : Due
-  action : Due
-  name : Due
-  number : Due
 
 -- What is due behind a byte that fits: the next byte, and how many terms or proofs; and what the byte makes of those that are read there.
 pub record Next (A : Type 0) : Type 0 where
@@ -20,11 +16,11 @@ pub record Next (A : Type 0) : Type 0 where
   pub build : List A → List A
 
 abbrev pub finished : Due → ℕ → Bool
-finished node zero = true
-finished node (suc k) = false
-finished action k = false
-finished name k = false
-finished number k = false
+finished Node zero = true
+finished Node (suc k) = false
+finished Action k = false
+finished Name k = false
+finished Number k = false
 
 -- a byte was read before what is read
 abbrev pub behind : {A B : Type 0} → (A → B) → Result A ℕ → Result B ℕ
@@ -42,14 +38,14 @@ read byte due k (b ∷ s) = onward (byte due k b) (λ d j. read byte d j s)
 
 -- a node alone before what is read behind it, or around the first of that, or around the first two
 abbrev pub alone : {A : Type 0} → A → ℕ → Option (Next A)
-alone x k = Some (record { due = node; count = k; build = λ xs. x ∷ xs })
+alone x k = Some (record { due = Node; count = k; build = λ xs. x ∷ xs })
 
 abbrev pub around : {A : Type 0} → (A → A) → List A → List A
 around f [] = []
 around f (x ∷ xs) = f x ∷ xs
 
 abbrev pub with_part : {A : Type 0} → (A → A) → ℕ → Option (Next A)
-with_part f k = Some (record { due = node; count = suc k; build = around f })
+with_part f k = Some (record { due = Node; count = suc k; build = around f })
 
 abbrev pub joining : {A : Type 0} → (A → A → A) → List A → List A
 joining f [] = []
@@ -57,7 +53,7 @@ joining f (x ∷ []) = x ∷ []
 joining f (x ∷ y ∷ xs) = f x y ∷ xs
 
 abbrev pub with_parts : {A : Type 0} → (A → A → A) → ℕ → Option (Next A)
-with_parts f k = Some (record { due = node; count = suc (suc k); build = joining f })
+with_parts f k = Some (record { due = Node; count = suc (suc k); build = joining f })
 
 -- a node's first byte, before what belongs to it
 abbrev pub before : {A : Type 0} → Due → ℕ → Option (Next A)
@@ -65,32 +61,32 @@ before d k = Some (record { due = d; count = k; build = λ xs. xs })
 
 -- a byte of terms over n definitions, where so many terms are due; behind a node's first byte, one more
 unfoldable pub term_byte : ℕ → Due → ℕ → ℕ → Option (Next Term)
-term_byte n node zero b = None
-term_byte n node (suc k) b =
-    if nat_eq b 0x00 then alone nil k
-    else if nat_eq b 0x01 then before action k
-    else if nat_eq b 0x02 then with_parts par k
-    else if nat_eq b 0x03 then with_parts sum k
-    else if nat_eq b 0x04 then before name k
-    else if nat_eq b 0x05 && nat_le 1 n then before number k else None
-term_byte n action k a = if is_action a then with_part (prefix a) k else None
-term_byte n name k m = if is_name m then with_part (restrict m) k else None
-term_byte n number k d = if nat_lt d n then alone (call d) k else None
+term_byte n Node zero b = None
+term_byte n Node (suc k) b =
+    if nat_eq b NIL then alone nil k
+    else if nat_eq b PREFIX then before Action k
+    else if nat_eq b PARALLEL then with_parts par k
+    else if nat_eq b SUM then with_parts sum k
+    else if nat_eq b RESTRICTION then before Name k
+    else if nat_eq b CALL && nat_le 1 n then before Number k else None
+term_byte n Action k a = if is_action a then with_part (prefix a) k else None
+term_byte n Name k m = if is_name m then with_part (restrict m) k else None
+term_byte n Number k d = if nat_lt d n then alone (call d) k else None
 
 -- a byte of proofs
 unfoldable pub proof_byte : Due → ℕ → ℕ → Option (Next Proof)
-proof_byte node zero b = None
-proof_byte node (suc k) b =
-    if nat_eq b 0x10 then before action k
-    else if nat_eq b 0x11 then with_part on_left k
-    else if nat_eq b 0x12 then with_part on_right k
-    else if nat_eq b 0x13 then with_parts both k
-    else if nat_eq b 0x14 then with_part choose_left k
-    else if nat_eq b 0x15 then with_part choose_right k
-    else if nat_eq b 0x16 then before name k else None
-proof_byte action k a = if is_action a then alone (act a) k else None
-proof_byte name k m = if is_name m then with_part (under m) k else None
-proof_byte number k d = None
+proof_byte Node zero b = None
+proof_byte Node (suc k) b =
+    if nat_eq b ACT then before Action k
+    else if nat_eq b LEFT then with_part on_left k
+    else if nat_eq b RIGHT then with_part on_right k
+    else if nat_eq b BOTH then with_parts both k
+    else if nat_eq b CHOOSE_LEFT then with_part choose_left k
+    else if nat_eq b CHOOSE_RIGHT then with_part choose_right k
+    else if nat_eq b UNDER then before Name k else None
+proof_byte Action k a = if is_action a then alone (act a) k else None
+proof_byte Name k m = if is_name m then with_part (under m) k else None
+proof_byte Number k d = None
 
 -- a string as one term, or as one proof
 abbrev pub only : {A : Type 0} → Result (List A) ℕ → Result A ℕ
@@ -99,7 +95,7 @@ only (Ok (x ∷ xs)) = Ok x
 only (Err p) = Err p
 
 abbrev pub read_term : ℕ → Str → Result Term ℕ
-read_term n s = only (read (term_byte n) node 1 s)
+read_term n s = only (read (term_byte n) Node 1 s)
 
 abbrev pub read_proof : Str → Result Proof ℕ
-read_proof s = only (read proof_byte node 1 s)
+read_proof s = only (read proof_byte Node 1 s)

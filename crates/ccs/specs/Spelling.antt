@@ -1,6 +1,7 @@
 -- Terms and proofs as bytes. Assumes nothing.
 use Rattle.std.specs.Prelude.{ℕ, Bool, true, ◌&&◌, [], ◌∷◌, ◌++◌, nat_lt}
 use Rattle.steps.specs.Meaning.{Str}
+use Rattle.ccs.specs.declared.node_bytes.TheConstants.{NIL, PREFIX, PARALLEL, SUM, RESTRICTION, CALL, ACT, LEFT, RIGHT, BOTH, CHOOSE_LEFT, CHOOSE_RIGHT, UNDER}
 use Rattle.ccs.specs.Syntax.{Term, Proof}
 use Rattle.ccs.specs.Syntax.Term.{nil, prefix, par, sum, restrict, call}
 use Rattle.ccs.specs.Syntax.Proof.{act, on_left, on_right, both, choose_left, choose_right, under}
@@ -8,21 +9,21 @@ use Rattle.actions.specs.Action.{is_name, is_action}
 
 -- each node's byte, then its action, name or number, then its parts
 unfoldable pub term_bytes : Term → Str
-term_bytes nil = 0x00 ∷ []
-term_bytes (prefix a p) = 0x01 ∷ a ∷ term_bytes p
-term_bytes (par p q) = 0x02 ∷ term_bytes p ++ term_bytes q
-term_bytes (sum p q) = 0x03 ∷ term_bytes p ++ term_bytes q
-term_bytes (restrict n p) = 0x04 ∷ n ∷ term_bytes p
-term_bytes (call d) = 0x05 ∷ d ∷ []
+term_bytes nil = NIL ∷ []
+term_bytes (prefix a p) = PREFIX ∷ a ∷ term_bytes p
+term_bytes (par p q) = PARALLEL ∷ term_bytes p ++ term_bytes q
+term_bytes (sum p q) = SUM ∷ term_bytes p ++ term_bytes q
+term_bytes (restrict n p) = RESTRICTION ∷ n ∷ term_bytes p
+term_bytes (call d) = CALL ∷ d ∷ []
 
 unfoldable pub proof_bytes : Proof → Str
-proof_bytes (act a) = 0x10 ∷ a ∷ []
-proof_bytes (on_left t) = 0x11 ∷ proof_bytes t
-proof_bytes (on_right t) = 0x12 ∷ proof_bytes t
-proof_bytes (both t u) = 0x13 ∷ proof_bytes t ++ proof_bytes u
-proof_bytes (choose_left t) = 0x14 ∷ proof_bytes t
-proof_bytes (choose_right t) = 0x15 ∷ proof_bytes t
-proof_bytes (under n t) = 0x16 ∷ n ∷ proof_bytes t
+proof_bytes (act a) = ACT ∷ a ∷ []
+proof_bytes (on_left t) = LEFT ∷ proof_bytes t
+proof_bytes (on_right t) = RIGHT ∷ proof_bytes t
+proof_bytes (both t u) = BOTH ∷ proof_bytes t ++ proof_bytes u
+proof_bytes (choose_left t) = CHOOSE_LEFT ∷ proof_bytes t
+proof_bytes (choose_right t) = CHOOSE_RIGHT ∷ proof_bytes t
+proof_bytes (under n t) = UNDER ∷ n ∷ proof_bytes t
 
 -- a term over n definitions: its actions are actions, its restricted names names, and it calls none but these
 unfoldable pub sound_term : ℕ → Term → Bool

@@ -3,6 +3,9 @@
 // It has no code: each function names what is proved of the definitions. It rests on `byte_strings` and `steps`.
 #![tactic(auto)]
 
+pub mod due;
+pub mod node_bytes;
+
 ghost use Rattle.ccs.specs.ReadingLaws.{ReadTerms, ReadProofs, StatesAreTerms, StepsAreProper, StatePlaces, StepPlaces};
 ghost use Rattle.ccs.specs.FollowLaws.{NextByRules, MisfitsTold, LabelsShown};
 ghost use Rattle.ccs.specs.ResidualLaws.{LeftByRules, BackUndoesLeft, Lawful};

@@ -4,7 +4,8 @@ use Rattle.std.specs.Result.{result_err}
 use Rattle.std.proofs.lemmas.Bool.{cond-true, cond-false, lt-ltb, le-ltb, ltb-true, ltb-false, eqb-true}
 use Rattle.steps.specs.Meaning.{Str}
 use Rattle.ccs.specs.Reading.{Next, behind, onward, read}
-use Rattle.ccs.specs.Reading as reading
+use Rattle.ccs.specs.declared.due.Due as dues
+use Rattle.ccs.specs.declared.due.Due.TheVariants as due
 use Rattle.nodes.specs.declared.scan.Due.{Due}
 use Rattle.nodes.specs.declared.scan.Due.TheVariants.{Node, Action, Name, Number}
 use Rattle.nodes.specs.Whole.{done, one_on, whole, whole_fault}
@@ -28,21 +29,21 @@ unfolding further
 read_further f (Ok xs) = refl
 read_further f (Err p) = ap Some (omega arith)
 
-due_again : (d : reading.Due) → due_of (due_in d) ≡ d
-due_again reading.Due.node = refl
-due_again reading.Due.action = refl
-due_again reading.Due.name = refl
-due_again reading.Due.number = refl
+due_again : (d : dues.Due) → due_of (due_in d) ≡ d
+due_again due.Node = refl
+due_again due.Action = refl
+due_again due.Name = refl
+due_again due.Number = refl
 
-none_due : (d : reading.Due) (k : ℕ) → done (record { due = due_in d; count = k }) ≡ true → (d ≡ reading.Due.node) × (k ≡ 0)
-none_due reading.Due.node k e = (refl, eqb-true k 0 e)
-none_due reading.Due.action k e = absurd (cc e)
-none_due reading.Due.name k e = absurd (cc e)
-none_due reading.Due.number k e = absurd (cc e)
+none_due : (d : dues.Due) (k : ℕ) → done (record { due = due_in d; count = k }) ≡ true → (d ≡ due.Node) × (k ≡ 0)
+none_due due.Node k e = (refl, eqb-true k 0 e)
+none_due due.Action k e = absurd (cc e)
+none_due due.Name k e = absurd (cc e)
+none_due due.Number k e = absurd (cc e)
 
-module _ {A : Type 0} (byte : reading.Due → ℕ → ℕ → Option (Next A)) (full : (b : ℕ) → byte reading.Due.node 0 b ≡ None) where
+module _ {A : Type 0} (byte : dues.Due → ℕ → ℕ → Option (Next A)) (full : (b : ℕ) → byte due.Node 0 b ≡ None) where
   -- behind the last one any byte is too many
-  behind_last : (f : List A → List A) (b : ℕ) (s : Str) → result_err (behind f (read byte reading.Due.node 0 s)) ≡ whole_fault (Ok 1) (length (b ∷ s))
+  behind_last : (f : List A → List A) (b : ℕ) (s : Str) → result_err (behind f (read byte due.Node 0 s)) ≡ whole_fault (Ok 1) (length (b ∷ s))
   unfolding read
   behind_last f b [] = refl
   behind_last f b (c ∷ s) =

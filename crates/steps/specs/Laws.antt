@@ -1,13 +1,14 @@
 -- The laws that every step system keeps. Assumes nothing.
 use Rattle.std.specs.Prelude.{◌≡◌, ℕ, ◌≤◌, ◌↔◌, length, Some, None, Ok, IsTrue, IsFalse}
+use Rattle.steps.specs.declared.limits.TheConstants.{STATE_LIMIT, STEP_LIMIT}
 use Rattle.steps.specs.Meaning.{Str, Transitions, Independence}
 
 -- States have at most this many bytes where a question is asked, and steps at most that many.
 abbrev pub state_limit : ℕ
-state_limit = 256
+state_limit = STATE_LIMIT
 
 abbrev pub step_limit : ℕ
-step_limit = 64
+step_limit = STEP_LIMIT
 
 pub record Laws (t : Transitions) (i : Independence) : Type 0 where
   -- a string is refused as a state exactly where it is none, or is too long; a step likewise

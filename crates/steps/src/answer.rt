@@ -4,6 +4,7 @@ ghost use Rattle.byte_strings.specs.Buffer.{count_some, buffer_after_some};
 ghost use Rattle.steps.specs.Answers.{fitting_step};
 
 use crate::fault::{MaskFault, SystemFault};
+use crate::limits::STEP_LIMIT;
 use byte_strings::buffer;
 
 // Writes a step over the front of the buffer and answers its length, or refuses one that is too long.
@@ -12,7 +13,7 @@ pub fn put_step(step: &[u8], out: &mut [u8]) -> Result<Option<usize>, MaskFault>
     ensures buffer { out.new ≡ buffer_after_some (fitting_step (Some step.now) (length out.old)) out.old }
 {
     let needed = step.len();
-    if needed <= 64 {
+    if needed <= STEP_LIMIT {
         if let Some(n) = buffer::copy(step, out) {
             return Ok(Some(n));
         }

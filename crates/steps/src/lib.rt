@@ -5,4 +5,10 @@
 pub mod answer;
 pub mod fault;
 pub mod label;
+pub mod limits;
 pub mod system;
+
+pub use fault::{MaskFault, Refusal, SystemFault};
+pub use label::Label;
+pub use limits::{STATE_LIMIT, STEP_LIMIT};
+pub use system::StepSystem;

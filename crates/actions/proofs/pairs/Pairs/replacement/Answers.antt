@@ -1,6 +1,6 @@
 use Rattle.std.proofs.Common.{sym, ◌∙◌, arith}
 use Rattle.actions.proofs.Paired.{renames_names, co_name_fits}
-use Rattle.actions.proofs.pairs.Pairs.renamed.Goals as goal
+use Rattle.actions.proofs.pairs.Pairs.replacement.Goals as goal
 
 pub overflow_add-result : goal.overflow_add-result
 overflow_add-result c =
