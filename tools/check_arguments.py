@@ -1,11 +1,10 @@
-"""Looks at what the program does with arguments: what no contract can say of a process.
+"""Looks at what the program does with arguments: what it prints, its status, and that it reads nothing.
 
 check_arguments.py PROGRAM
 
 1. `--help` tells in a screen what is read and written, and its example is true.
-2. `--version` tells the repository's version and the line of the kit.
-3. Any other argument, or one more, is an error with a status that is not 0.
-In none of these is anything read.
+2. `--version` tells the program's version and the kit's line.
+3. Any other argument, or one more, is an error that names it, with status 2.
 """
 import os
 import re
@@ -13,22 +12,34 @@ import subprocess
 import sys
 
 FRAME = b"B00000\n"
-WRONG = [["-h"], ["help"], ["--HELP"], [""], ["sessions/handover.in"], ["--help", "--help"], ["--help", ""], ["--version", "--help"], ["x" * 1000]]
+# Arguments, and what is told of them.
+WRONG = [
+    ([b"-h"], 'unexpected argument "-h"'),
+    ([b"--hepl"], 'unexpected argument "--hepl"'),
+    ([b"--HELP"], 'unexpected argument "--HELP"'),
+    ([b""], 'unexpected argument ""'),
+    ([b"sessions/handover.in"], 'unexpected argument "sessions/handover.in"'),
+    ([b"--help", b"--help"], 'unexpected argument "--help"'),
+    ([b"--version", b"more"], 'unexpected argument "more"'),
+    ([b'a\n\xff"'], 'unexpected argument "a\\n\\xff\\""'),
+    ([b"x" * 64], f'unexpected argument "{"x" * 64}"'),
+    ([b"x" * 65], "unexpected argument of more than 64 bytes"),
+]
 EXAMPLE = re.compile(r"^ +([0-9A-F]+) +([0-9A-F]+)$", re.M)
 
 
-def given(program: str, words: list[str]) -> tuple[int, str, str, bool]:
+def given(program: str, words: list[bytes]) -> tuple[int, str, str, bool]:
     """The status, both outputs, and whether a frame on standard input is there still."""
     reads, writes = os.pipe()
-    with open(reads, "rb", buffering=0) as left, open(writes, "wb", buffering=0) as frames:
+    with open(writes, "wb") as frames:
         frames.write(FRAME)
+    with open(reads, "rb", buffering=0) as left:
         run = subprocess.run([program, *words], stdin=left, capture_output=True, timeout=60, check=False)
-        frames.close()
         return run.returncode, run.stdout.decode(), run.stderr.decode(), left.read() == FRAME
 
 
 def helps(program: str) -> bool:
-    status, text, errors, is_unread = given(program, ["--help"])
+    status, text, errors, is_unread = given(program, [b"--help"])
     example = EXAMPLE.findall(text)
     answers = subprocess.run([program], input="".join(frame + "\n" for frame, _ in example), capture_output=True, text=True, timeout=60, check=False)
     is_true = bool(example) and answers.stdout.split() == [answer for _, answer in example]
@@ -38,16 +49,16 @@ def helps(program: str) -> bool:
 
 def tells_its_version(program: str) -> bool:
     kit = subprocess.run(["rt", "version"], capture_output=True, text=True, check=True).stdout
-    status, text, errors, is_unread = given(program, ["--version"])
+    status, text, errors, is_unread = given(program, [b"--version"])
     first, _, rest = text.partition("\n")
     return (status, errors) == (0, "") and is_unread and re.fullmatch(r"sheetbench \d+(\.\d+)+", first) is not None and rest == kit
 
 
 def refuses_others(program: str) -> bool:
-    for words in WRONG:
-        status, text, errors, is_unread = given(program, words)
-        if status == 0 or text or not errors.endswith("\n") or not is_unread:
-            print(f"{words}: status {status}, output {text!r}, errors {errors!r}, input {'left' if is_unread else 'read'}")
+    for words, told in WRONG:
+        found = given(program, words)
+        if found != (2, "", f"sheetbench: {told}; see sheetbench --help\n", True):
+            print(f"{words}: status {found[0]}, output {found[1]!r}, errors {found[2]!r}, input {'left' if found[3] else 'read'}")
             return False
     return True
 
