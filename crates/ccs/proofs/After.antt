@@ -1,4 +1,4 @@
--- What independence and what is left keep, for proofs as trees. Assumes nothing.
+-- What independence and what is left keep, for proofs as trees.
 use Rattle.std.proofs.Common.{◌≡◌, ℕ, sym, refl, ap, ap₂, ◌∙◌}
 use Rattle.ccs.specs.Syntax.{Term, Proof}
 use Rattle.ccs.specs.Syntax.Proof.{on_left, on_right, both, choose_left, choose_right, under}

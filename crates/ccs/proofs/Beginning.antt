@@ -1,4 +1,4 @@
--- The place that reading tells is where the longest beginning ends. Assumes nothing.
+-- The place that reading tells is where the longest beginning ends.
 use Rattle.std.proofs.Common.{◌≡◌, ℕ, zero, suc, ◌≤◌, List, [], ◌∷◌, ◌++◌, take, Ok, Err, Option, sym, refl, ap, ◌∙◌, subst, arith}
 use Rattle.steps.specs.Meaning.{Str}
 use Rattle.ccs.specs.declared.due.Due.{Due}

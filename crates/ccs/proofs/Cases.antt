@@ -1,4 +1,4 @@
--- Taking apart conditions. Assumes nothing.
+-- Taking apart conditions.
 use Rattle.std.proofs.Common.{◌≡◌, Bool, true, false, cond, ◌&&◌, refl}
 
 -- what holds of both branches holds of a condition

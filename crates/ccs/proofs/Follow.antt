@@ -1,4 +1,4 @@
--- The term that follows is the one that the transition rules give, and the place told that of the first node that does not fit. Assumes nothing.
+-- The term that follows is the one that the transition rules give, and the place told that of the first node that does not fit.
 use Rattle.std.proofs.Common.{◌≡◌, ℕ, suc, ◌+◌, ◌<◌, true, false, cond, length, Some, None, Ok, Err, Result, nat_eq, sym, refl, ap, ap₂, ◌∙◌, subst, inl, inr, ◌⊎◌, length-append, arith}
 use Rattle.std.proofs.lemmas.Bool.{eqb-true, eq-eqb}
 use Rattle.ccs.specs.Syntax.{Term, Proof}
@@ -12,7 +12,7 @@ use Rattle.ccs.specs.Follow.{Suits, plain, MisfitAt, unfold_call, on_prefix, on_
 use Rattle.ccs.specs.Follow.Suits.{action, left_side, right_side, both_sides, left_branch, right_branch, restriction}
 use Rattle.ccs.specs.Follow.MisfitAt.{here, on_the_left, on_the_right, in_first, in_second, in_left_branch, in_right_branch, in_restriction, in_body}
 use Rattle.ccs.proofs.Cases.{cond_case}
-use Rattle.ccs.proofs.Improper.{shifted, first_in_first, first_of_two, at}
+use Rattle.ccs.proofs.First.{first_in_first, first_of_two, at_start, one_further, two_further}
 
 -- which terms a proof's first node fits
 left_is_par : {p : Term} {t : Proof} → Suits p (on_left t) → (q r : Term) × (p ≡ par q r)
@@ -117,18 +117,36 @@ module _ {body : ℕ → Term} where
 
   -- a node that does not fit is the first
   pub at_once : {p : Term} {t : Proof} → plain p ≡ true → (Suits p t → ⊥) → First (MisfitAt body p t) 0
-  at_once e n = record { holds = here e n; least = λ j l i. absurd (omega (arith, l)) }
+  at_once {p} {t} e n = at_start (MisfitAt body p t) (here e n)
 
-  -- around what a part becomes
-  around_goes : (p : Term) (t : Proof) (q : Term) (u : Proof) (n : ℕ) (f : Term → Term) → ((p' : Term) → Moves body p t p' → Moves body q u (f p')) → ((k j : ℕ) → j ≡ n + k → MisfitAt body p t k → MisfitAt body q u j) → ((j : ℕ) → MisfitAt body q u j → (k : ℕ) × (j ≡ n + k) × MisfitAt body p t k) → (r : Result Term ℕ) → Followed body p t r → Followed body q u (around n f r)
-  around_goes p t q u n f go up down (Ok p') m = go p' m
-  around_goes p t q u n f go up down (Err k) h = shifted (MisfitAt body p t) (MisfitAt body q u) n up down (Some k) h
+  -- around what a part becomes, behind a byte or two of the node's own
+  around_part : (p : Term) (t : Proof) (q : Term) (u : Proof) (f : Term → Term)
+      → ((p' : Term) → Moves body p t p' → Moves body q u (f p'))
+      → ((k : ℕ) → MisfitAt body p t k → MisfitAt body q u (suc k))
+      → ((j : ℕ) → MisfitAt body q u j → (k : ℕ) × (j ≡ 1 + k) × MisfitAt body p t k)
+      → (r : Result Term ℕ) → Followed body p t r → Followed body q u (around 1 f r)
+  around_part p t q u f go up down (Ok p') m = go p' m
+  around_part p t q u f go up down (Err k) h = one_further (MisfitAt body p t) (MisfitAt body q u) up down (Some k) h
+
+  around_named : (p : Term) (t : Proof) (q : Term) (u : Proof) (f : Term → Term)
+      → ((p' : Term) → Moves body p t p' → Moves body q u (f p'))
+      → ((k : ℕ) → MisfitAt body p t k → MisfitAt body q u (suc (suc k)))
+      → ((j : ℕ) → MisfitAt body q u j → (k : ℕ) × (j ≡ 2 + k) × MisfitAt body p t k)
+      → (r : Result Term ℕ) → Followed body p t r → Followed body q u (around 2 f r)
+  around_named p t q u f go up down (Ok p') m = go p' m
+  around_named p t q u f go up down (Err k) h = two_further (MisfitAt body p t) (MisfitAt body q u) up down (Some k) h
 
 module _ (body : ℕ → Term) where
-  both_go : (p q : Term) (t u : Proof) (r s : Result Term ℕ) → Followed body p t r → Followed body q u s → Followed body (par p q) (both t u) (both_sides_go (length (proof_bytes t)) r s)
+  both_go : (p q : Term) (t u : Proof) (r s : Result Term ℕ)
+      → Followed body p t r → Followed body q u s
+      → Followed body (par p q) (both t u) (both_sides_go (length (proof_bytes t)) r s)
   both_go p q t u (Ok p') (Ok q') m n = both_move m n
-  both_go p q t u (Ok p') (Err k) m h = first_of_two (MisfitAt body p t) (MisfitAt body q u) (MisfitAt body (par p q) (both t u)) (length (proof_bytes t)) (λ k i. within i) (λ k j f i. at (MisfitAt body (par p q) (both t u)) {i = suc k} (omega (arith, f)) (in_first i)) (λ k j f i. in_second i (omega (arith, f))) from_both None (Some k) (λ j i. all_fit i m) h
-  both_go p q t u (Err k) s h n = first_in_first (MisfitAt body p t) (MisfitAt body q u) (MisfitAt body (par p q) (both t u)) (length (proof_bytes t)) (λ k i. within i) (λ k j f i. at (MisfitAt body (par p q) (both t u)) {i = suc k} (omega (arith, f)) (in_first i)) from_both k h
+  both_go p q t u (Ok p') (Err k) m h =
+      first_of_two (MisfitAt body p t) (MisfitAt body q u) (MisfitAt body (par p q) (both t u)) (length (proof_bytes t))
+      (λ k i. within i) (λ k i. in_first i) (λ k j f i. in_second i f) from_both None (Some k) (λ j i. all_fit i m) h
+  both_go p q t u (Err k) s h n =
+      first_in_first (MisfitAt body p t) (MisfitAt body q u) (MisfitAt body (par p q) (both t u)) (length (proof_bytes t))
+      (λ k i. within i) (λ k i. in_first i) from_both k h
 
   -- of a term that is no call, by the proof's first node; what the parts do is given
   by_prefix : (b : ℕ) (p : Term) → plain p ≡ true → Followed body p (act b) (on_prefix p (λ a q. cond (nat_eq a b) (Ok q) (Err 0)))
@@ -161,14 +179,18 @@ module _ (body : ℕ → Term) where
   by_sum t f h n (restrict m p) e = at_once e (λ s. cc (n (restrict m p) s).2)
   by_sum t f h n (call d) e = absurd (cc e)
 
-  by_restrict : (m : ℕ) (t : Proof) → Part t → (p : Term) → plain p ≡ true → Followed body p (under m t) (on_restrict p (λ n q. cond (nat_eq n m) (around 2 (restrict n) (follow body q t)) (Err 0)))
+  by_restrict : (m : ℕ) (t : Proof) → Part t → (p : Term) → plain p ≡ true
+      → Followed body p (under m t)
+          (on_restrict p (λ n q. cond (nat_eq n m) (around 2 (restrict n) (follow body q t)) (Err 0)))
   by_restrict m t h nil e = at_once e (λ s. elim s [ ])
   by_restrict m t h (prefix a p) e = at_once e (λ s. elim s [ ])
   by_restrict m t h (par p q) e = at_once e (λ s. elim s [ ])
   by_restrict m t h (sum p q) e = at_once e (λ s. elim s [ ])
   by_restrict m t h (restrict n p) e =
       cond_case (Followed body (restrict n p) (under m t)) (nat_eq n m) _ _
-      (λ f. around_goes p t (restrict n p) (under m t) 2 (restrict n) (λ p' g. moves_under (eqb-true n m f) g) (λ k j g i. at (MisfitAt body (restrict n p) (under m t)) {i = suc (suc k)} (omega (arith, g)) (in_restriction (eqb-true n m f) i)) (from_restriction (eqb-true n m f)) (follow body p t) (h p))
+      (λ f. let same = eqb-true n m f in
+          around_named p t (restrict n p) (under m t) (restrict n) (λ p' g. moves_under same g)
+          (λ k i. in_restriction same i) (from_restriction same) (follow body p t) (h p))
       (λ f. at_once e (λ s. differ s f))
     where
       differ : Suits (restrict n p) (under m t) → nat_eq n m ≡ false → ⊥
@@ -202,12 +224,37 @@ module _ (body : ℕ → Term) where
     pub follow_means : (t : Proof) (p : Term) → Followed body p t (follow body p t)
     unfolding follow
     follow_means (act b) p = through_call p (act b) _ (by_prefix b (unfold_call body p) (unfolded_plain p))
-    follow_means (on_left t) p = through_call p (on_left t) _ (by_par (on_left t) _ (λ q r. around_goes q t (par q r) (on_left t) 1 (λ q'. par q' r) (λ q' m. left_moves m) (λ k j e i. at (MisfitAt body (par q r) (on_left t)) {i = suc k} (omega (arith, e)) (on_the_left i)) from_left (follow body q t) (follow_means t q)) (λ p. left_is_par) (unfold_call body p) (unfolded_plain p))
-    follow_means (on_right t) p = through_call p (on_right t) _ (by_par (on_right t) _ (λ q r. around_goes r t (par q r) (on_right t) 1 (λ r'. par q r') (λ r' m. right_moves m) (λ k j e i. at (MisfitAt body (par q r) (on_right t)) {i = suc k} (omega (arith, e)) (on_the_right i)) from_right (follow body r t) (follow_means t r)) (λ p. right_is_par) (unfold_call body p) (unfolded_plain p))
-    follow_means (both t u) p = through_call p (both t u) _ (by_par (both t u) _ (λ q r. both_go q r t u (follow body q t) (follow body r u) (follow_means t q) (follow_means u r)) (λ p. both_is_par) (unfold_call body p) (unfolded_plain p))
-    follow_means (choose_left t) p = through_call p (choose_left t) _ (by_sum (choose_left t) _ (λ q r. around_goes q t (sum q r) (choose_left t) 1 (λ q'. q') (λ q' m. left_chosen m) (λ k j e i. at (MisfitAt body (sum q r) (choose_left t)) {i = suc k} (omega (arith, e)) (in_left_branch i)) from_left_branch (follow body q t) (follow_means t q)) (λ p. left_is_sum) (unfold_call body p) (unfolded_plain p))
-    follow_means (choose_right t) p = through_call p (choose_right t) _ (by_sum (choose_right t) _ (λ q r. around_goes r t (sum q r) (choose_right t) 1 (λ r'. r') (λ r' m. right_chosen m) (λ k j e i. at (MisfitAt body (sum q r) (choose_right t)) {i = suc k} (omega (arith, e)) (in_right_branch i)) from_right_branch (follow body r t) (follow_means t r)) (λ p. right_is_sum) (unfold_call body p) (unfolded_plain p))
-    follow_means (under m t) p = through_call p (under m t) _ (by_restrict m t (follow_means t) (unfold_call body p) (unfolded_plain p))
+    follow_means (on_left t) p =
+        through_call p (on_left t) _
+        (by_par (on_left t) _
+            (λ q r. around_part q t (par q r) (on_left t) (λ q'. par q' r) (λ p' m. left_moves m) (λ k i. on_the_left i) from_left
+                (follow body q t) (follow_means t q))
+            (λ p. left_is_par) (unfold_call body p) (unfolded_plain p))
+    follow_means (on_right t) p =
+        through_call p (on_right t) _
+        (by_par (on_right t) _
+            (λ q r. around_part r t (par q r) (on_right t) (λ r'. par q r') (λ p' m. right_moves m) (λ k i. on_the_right i) from_right
+                (follow body r t) (follow_means t r))
+            (λ p. right_is_par) (unfold_call body p) (unfolded_plain p))
+    follow_means (both t u) p =
+        through_call p (both t u) _
+        (by_par (both t u) _
+            (λ q r. both_go q r t u (follow body q t) (follow body r u) (follow_means t q) (follow_means u r))
+            (λ p. both_is_par) (unfold_call body p) (unfolded_plain p))
+    follow_means (choose_left t) p =
+        through_call p (choose_left t) _
+        (by_sum (choose_left t) _
+            (λ q r. around_part q t (sum q r) (choose_left t) (λ q'. q') (λ p' m. left_chosen m) (λ k i. in_left_branch i) from_left_branch
+                (follow body q t) (follow_means t q))
+            (λ p. left_is_sum) (unfold_call body p) (unfolded_plain p))
+    follow_means (choose_right t) p =
+        through_call p (choose_right t) _
+        (by_sum (choose_right t) _
+            (λ q r. around_part r t (sum q r) (choose_right t) (λ r'. r') (λ p' m. right_chosen m) (λ k i. in_right_branch i) from_right_branch
+                (follow body r t) (follow_means t r))
+            (λ p. right_is_sum) (unfold_call body p) (unfolded_plain p))
+    follow_means (under m t) p =
+        through_call p (under m t) _ (by_restrict m t (follow_means t) (unfold_call body p) (unfolded_plain p))
 
     pub follow_moves : (p : Term) (t : Proof) (q : Term) → follow body p t ≡ Ok q → Moves body p t q
     follow_moves p t q e = subst (Followed body p t) e (follow_means t p)

@@ -1,4 +1,4 @@
--- What is left of a proof keeps its label, is as proper and as sound, and is no longer. Assumes nothing.
+-- What is left of a proof keeps its label, is as proper and as sound, and is no longer.
 use Rattle.std.proofs.Common.{◌≡◌, ◌≤◌, length, refl, length-append, arith}
 use Rattle.ccs.specs.Syntax.{Proof}
 use Rattle.ccs.specs.Label.{label, proper}

@@ -1,8 +1,8 @@
--- What reading bytes answers, for terms and for proofs alike. Assumes nothing.
+-- What reading bytes answers, for terms and for proofs alike.
 use Rattle.std.proofs.Common.{◌≡◌, ℕ, suc, ◌≤◌, ◌<◌, Bool, true, false, cond, List, [], ◌∷◌, ◌++◌, length, take, Some, None, Ok, Err, Option, Result, refl, ap, ◌∙◌, arith}
 use Rattle.steps.specs.Meaning.{Str}
 use Rattle.ccs.specs.declared.due.Due.{Due}
-use Rattle.ccs.specs.Reading.{Next, finished, behind, onward, read}
+use Rattle.ccs.specs.Reading.{Next, nothing_due, behind, onward, read}
 
 -- what holds of an answer, where it is a list
 abbrev pub HoldsOf : {A : Type 0} → (Due → ℕ → Str → List A → Type 0) → Due → ℕ → Str → Result (List A) ℕ → Type 0
@@ -26,7 +26,7 @@ module _ {A : Type 0} (byte : Due → ℕ → ℕ → Option (Next A)) where
 
   pub stops : (d : Due) (k : ℕ) (s : Str) → Stops d k s (read byte d k s)
   unfolding read
-  stops d k [] = go (finished d k)
+  stops d k [] = go (nothing_due d k)
     where
       go : (f : Bool) → Stops d k [] (cond f (Ok []) (Err 0))
       go true = tt
@@ -52,7 +52,7 @@ module _ {A : Type 0} (byte : Due → ℕ → ℕ → Option (Next A)) where
       (ending : (d : Due) (k : ℕ) → Alive d k → (r : Str) × (xs : List A) × read byte d k r ≡ Ok xs) where
     pub begins : (d : Due) (k : ℕ) (s : Str) → Alive d k → Begins d k s (read byte d k s)
     unfolding read
-    begins d k [] alive = go (finished d k)
+    begins d k [] alive = go (nothing_due d k)
       where
         go : (f : Bool) → Begins d k [] (cond f (Ok []) (Err 0))
         go true = tt
@@ -69,13 +69,13 @@ module _ {A : Type 0} (byte : Due → ℕ → ℕ → Option (Next A)) where
 
   -- What is read holds of what was due and of the string, if it holds of nothing at the end and each byte keeps it.
   module _ (Holds : Due → ℕ → Str → List A → Type 0)
-      (at_end : (d : Due) (k : ℕ) → finished d k ≡ true → Holds d k [] [])
+      (at_end : (d : Due) (k : ℕ) → nothing_due d k ≡ true → Holds d k [] [])
       (at_byte : (d : Due) (k b : ℕ) (n : Next A) (s : Str) (xs : List A) → byte d k b ≡ Some n → Holds n.due n.count s xs → Holds d k (b ∷ s) (n.build xs)) where
     pub holds : (d : Due) (k : ℕ) (s : Str) → HoldsOf Holds d k s (read byte d k s)
     unfolding read
-    holds d k [] = go (finished d k) refl
+    holds d k [] = go (nothing_due d k) refl
       where
-        go : (f : Bool) → finished d k ≡ f → HoldsOf Holds d k [] (cond f (Ok []) (Err 0))
+        go : (f : Bool) → nothing_due d k ≡ f → HoldsOf Holds d k [] (cond f (Ok []) (Err 0))
         go true e = at_end d k e
         go false e = tt
     holds d k (b ∷ s) = go (byte d k b) refl (λ e j. holds e j s)

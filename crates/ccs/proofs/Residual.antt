@@ -1,4 +1,4 @@
--- The residual and the origin are those of the rules. Assumes nothing.
+-- The residual and the origin are those of the rules.
 use Rattle.std.proofs.Common.{◌≡◌, ℕ, Some, None, Option, nat_eq, sym, ap, ◌∙◌, subst}
 use Rattle.std.proofs.lemmas.Bool.{eqb-true, eq-eqb}
 use Rattle.ccs.specs.Syntax.{Proof}

@@ -1,9 +1,9 @@
--- What a list of terms or proofs has to do with the bytes that it was read from. Assumes nothing.
+-- What a list of terms or proofs has to do with the bytes that it was read from.
 use Rattle.std.proofs.Common.{◌≡◌, ℕ, zero, suc, Bool, true, ◌&&◌, List, [], ◌∷◌, ◌++◌, length, Some, None, Ok, Err, Option, Result, sym, refl, ap, ◌∙◌, subst, append_assoc, append-nil}
 use Rattle.steps.specs.Meaning.{Str}
 use Rattle.ccs.specs.declared.due.Due.{Due}
-use Rattle.ccs.specs.Reading.{Next, finished, read, alone, with_part, with_parts, before, only}
 use Rattle.ccs.specs.declared.due.Due.TheVariants.{Node, Action, Name, Number}
+use Rattle.ccs.specs.Reading.{Next, nothing_due, read, alone, with_part, with_parts, before, only}
 use Rattle.ccs.proofs.Cases.{both_of}
 use Rattle.ccs.proofs.Reading.{holds, HoldsOf}
 
@@ -73,7 +73,7 @@ module _ {A : Type 0} (bytes_of : A → Str) (sound : A → Bool) (opening : Due
   unfolding spelled all_sound
   read_spelled byte o keeps d k s = holds byte Spelled at_end at_byte d k s
     where
-      at_end : (d : Due) (k : ℕ) → finished d k ≡ true → Spelled d k [] []
+      at_end : (d : Due) (k : ℕ) → nothing_due d k ≡ true → Spelled d k [] []
       at_end Node zero e = record { count = refl; all = refl; bytes = sym (append-nil _ ∙ o) }
       at_end Node (suc k) e = absurd (cc e)
       at_end Action k e = absurd (cc e)

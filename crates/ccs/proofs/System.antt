@@ -1,4 +1,4 @@
--- Terms over sound definitions keep the laws of step systems. Assumes nothing.
+-- Terms over sound definitions keep the laws of step systems.
 use Rattle.std.proofs.Common.{◌≡◌, ◌↔◌, ℕ, zero, suc, ◌≤◌, Bool, true, false, cond, List, [], ◌∷◌, length, Some, None, Ok, Err, Option, Result, is_ok, nat_le, sym, refl, ap, ◌∙◌, subst, arith}
 use Rattle.std.proofs.lemmas.Bool.{leb-true, le-leb}
 use Rattle.std.specs.Result.{result_err}
@@ -26,7 +26,9 @@ use Rattle.ccs.proofs.After.{after_sym, not_of_itself, diamond, possible_before,
 use Rattle.ccs.proofs.Residual.{residual_is, is_residual, origin_is, is_origin}
 use Rattle.ccs.proofs.Kept.{label_kept, proper_kept, sound_kept, length_kept}
 use Rattle.ccs.proofs.Improper.{none_is_proper, proper_is_none}
-use Rattle.ccs.proofs.Follow.{Followed, follow_means, follow_moves, moves_follow}
+use Rattle.ccs.proofs.First.{first_is_one}
+use Rattle.ccs.proofs.Limits.{no_place}
+use Rattle.ccs.proofs.Follow.{Followed, all_fit, follow_means, follow_moves, moves_follow}
 use Rattle.ccs.proofs.TermReading.{read_is_term, term_is_read}
 use Rattle.ccs.proofs.ProofReading.{read_is_proof, proof_is_read}
 
@@ -276,16 +278,8 @@ independent_before x y w y' w' v e f g =
     (proof_bytes i.0, lefts_of y w a.t b.t i.0 i.1 a.first b.first i.2)
 
 -- a string is refused exactly where it is none, or too long
-told : {A : Type 0} (limit : ℕ) (s : Str) (r : Result A ℕ) → (past limit s (result_err r) ≡ None) ↔ ((is_ok r ≡ true) × (length s ≤ limit))
-told limit s (Ok x) = (λ e. (refl, fits (nat_le (length s) limit) refl e), λ h. rw (le-leb (length s) limit h.1) refl)
-  where
-    fits : (b : Bool) → nat_le (length s) limit ≡ b → cond b None (Some limit) ≡ None → length s ≤ limit
-    fits true f e = leb-true (length s) limit f
-    fits false f e = absurd (cc e)
-told limit s (Err k) = (λ e. absurd (cc e), λ h. absurd (cc h.0))
-
 state_refusals : (n : ℕ) (s : Str) → (past 256 s (result_err (read_term n s)) ≡ None) ↔ ((is_ok (read_term n s) ≡ true) × (length s ≤ 256))
-state_refusals n s = told 256 s (read_term n s)
+state_refusals n s = no_place 256 s (read_term n s)
 
 step_refusals : (x : Str) → ((or_else (past 64 x (result_err (read_proof x))) (improper_of (read_proof x)) ≡ None) × (false ≡ false)) ↔ ((is_ok (read_step x) ≡ true) × (length x ≤ 64))
 step_refusals x = (λ e. there (past 64 x (result_err (read_proof x))) refl e.0, λ h. (back (read_proof x) refl h.0 h.1, refl))
@@ -296,14 +290,14 @@ step_refusals x = (λ e. there (past 64 x (result_err (read_proof x))) refl e.0,
 
     there : (o : Option ℕ) → past 64 x (result_err (read_proof x)) ≡ o → or_else o (improper_of (read_proof x)) ≡ None → (is_ok (read_step x) ≡ true) × (length x ≤ 64)
     there (Some k) f e = absurd (cc e)
-    there None f e = let h = (told 64 x (read_proof x)).0 f in (proper_there (read_proof x) h.0 e, h.1)
+    there None f e = let h = (no_place 64 x (read_proof x)).0 f in (proper_there (read_proof x) h.0 e, h.1)
 
     none : (t : Proof) (o : Option ℕ) → is_ok (if_proper t o) ≡ true → o ≡ None
     none t None f = refl
     none t (Some k) f = absurd (cc f)
 
     back : (r : Result Proof ℕ) → read_proof x ≡ r → is_ok (proper_only r) ≡ true → length x ≤ 64 → or_else (past 64 x (result_err (read_proof x))) (improper_of (read_proof x)) ≡ None
-    back (Ok t) e f l = rw ((told 64 x (read_proof x)).1 (ap is_ok e, l), e) (none t (improper t) f)
+    back (Ok t) e f l = rw ((no_place 64 x (read_proof x)).1 (ap is_ok e, l), e) (none t (improper t) f)
     back (Err k) e f l = absurd (cc f)
 
 pub terms_laws : (ds : List Term) → sound_bodies (length ds) ds ≡ true → Laws (terms_transitions ds) terms_independence
@@ -359,16 +353,40 @@ next_by_rules ds sound a x b = (there, back)
     back : Goes ds a x b → (terms_transitions ds).next a x ≡ Ok b
     back g = next_of ds sound a x g.p g.q g.t (ap (read_term (length ds)) (sym g.state) ∙ term_is_read (length ds) g.p g.state_sound) (ap read_step (sym g.step) ∙ step_is_read g.t g.step_sound g.is_proper) g.moves ∙ ap Ok g.end
 
-pub misfits_told : MisfitsTold
-misfits_told ds sound p t k sp st pr e =
-    go (follow (body_of ds) p t) (follow_means (body_of ds) (plain_bodies ds sound) t p) (ap2 ∙ e)
-  where
-    ap2 : spelled_term (follow (body_of ds) p t) ≡ (terms_transitions ds).next (term_bytes p) (proof_bytes t)
-    ap2 = sym (rw (term_is_read (length ds) p sp, step_is_read t st pr) refl)
+-- a step that is not possible leads nowhere, so the place told is that of the first node that does not fit
+module _ (ds : List Term) (sound : sound_bodies (length ds) ds ≡ true)
+    (p : Term) (sound_p : sound_term (length ds) p ≡ true)
+    (t : Proof) (sound_t : sound_proof t ≡ true) (proper_t : proper t ≡ true) where
+  next_is : (terms_transitions ds).next (term_bytes p) (proof_bytes t) ≡ spelled_term (follow (body_of ds) p t)
+  next_is = rw (term_is_read (length ds) p sound_p, step_is_read t sound_t proper_t) refl
 
-    go : (r : Result Term ℕ) → Followed (body_of ds) p t r → spelled_term r ≡ Err k → First (MisfitAt (body_of ds) p t) k
-    go (Ok q) h f = absurd (cc f)
-    go (Err j) h f = let same : j ≡ k = cc f in subst (First (MisfitAt (body_of ds) p t)) same h
+  misfit_there : (k : ℕ) (r : Result Term ℕ) → Followed (body_of ds) p t r → spelled_term r ≡ Err k
+      → First (MisfitAt (body_of ds) p t) k
+  misfit_there k (Ok q) h e = absurd (cc e)
+  misfit_there k (Err j) h e = let same : j ≡ k = cc e in subst (First (MisfitAt (body_of ds) p t)) same h
+
+  misfit_back : (k : ℕ) (r : Result Term ℕ) → Followed (body_of ds) p t r → First (MisfitAt (body_of ds) p t) k
+      → spelled_term r ≡ Err k
+  misfit_back k (Ok q) h f = absurd (all_fit f.holds h)
+  misfit_back k (Err j) h f = ap Err (first_is_one (MisfitAt (body_of ds) p t) j k h f)
+
+  followed : Followed (body_of ds) p t (follow (body_of ds) p t)
+  followed = follow_means (body_of ds) (plain_bodies ds sound) t p
+
+  misfit_is : (k : ℕ) → ((terms_transitions ds).next (term_bytes p) (proof_bytes t) ≡ Err k)
+      ↔ First (MisfitAt (body_of ds) p t) k
+  misfit_is k = (
+    λ e. misfit_there k (follow (body_of ds) p t) followed (sym next_is ∙ e),
+    λ f. next_is ∙ misfit_back k (follow (body_of ds) p t) followed f,
+  )
+
+pub misfit_place : MisfitsTold
+misfit_place = misfit_is
+
+pub misfits_told : (ds : List Term) → sound_bodies (length ds) ds ≡ true
+    → (p : Term) (t : Proof) (k : ℕ) → sound_term (length ds) p ≡ true → sound_proof t ≡ true → proper t ≡ true
+    → (terms_transitions ds).next (term_bytes p) (proof_bytes t) ≡ Err k → First (MisfitAt (body_of ds) p t) k
+misfits_told ds sound p t k sp st pr = (misfit_is ds sound p sp t st pr k).0
 
 pub labels_shown : LabelsShown
 labels_shown ds t s = ap label_of (proof_is_read t s)

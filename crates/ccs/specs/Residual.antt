@@ -1,4 +1,4 @@
--- What is left of a proof after an independent one, and of which proof one is left. Assumes nothing.
+-- What is left of a proof after an independent one, and of which proof one is left.
 use Rattle.std.specs.Prelude.{Some, None, Option, nat_eq, if◌then◌else◌}
 use Rattle.ccs.specs.Syntax.{Proof}
 use Rattle.ccs.specs.Syntax.Proof.{on_left, on_right, both, choose_left, choose_right, under}

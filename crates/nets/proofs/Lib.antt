@@ -1,1 +1,5 @@
 mod Stored
+mod Spelling
+mod Naming
+pub mod ByRules
+pub mod Places

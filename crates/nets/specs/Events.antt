@@ -6,24 +6,24 @@ use Rattle.nets.specs.declared.event.EventFault.{EventFault}
 use Rattle.nets.specs.declared.event.EventFault.TheVariants.{Full, NoAction, EmptySet, SharedCondition}
 
 -- some condition is before the event, and some after it
-abbrev pub filled : Event → Bool
-filled e = not (e.before == 0) && not (e.after == 0)
+abbrev pub has_conditions : Event → Bool
+has_conditions e = not (e.before == 0) && not (e.after == 0)
 
 -- no condition is both before and after it
-abbrev pub disjoint : Event → Bool
-disjoint e = bit_and e.before e.after == 0
+abbrev pub shares_none : Event → Bool
+shares_none e = bit_and e.before e.after == 0
 
 abbrev pub event_fault : Event → Option EventFault
 event_fault e =
-    if is_action e.action then (if filled e then (if disjoint e then None else Some SharedCondition) else Some EmptySet) else Some NoAction
+    if is_action e.action then (if has_conditions e then (if shares_none e then None else Some SharedCondition) else Some EmptySet) else Some NoAction
 
 -- no condition beyond the sixty-fourth
-abbrev pub narrow : Event → Bool
-narrow e = nat_lt e.before (2 ^ 64) && nat_lt e.after (2 ^ 64)
+abbrev pub is_narrow : Event → Bool
+is_narrow e = nat_lt e.before (2 ^ 64) && nat_lt e.after (2 ^ 64)
 
 -- the events that a net may have
 abbrev pub sound_event : Event → Bool
-sound_event e = narrow e && not (is_some (event_fault e))
+sound_event e = is_narrow e && not (is_some (event_fault e))
 
 abbrev pub all_sound : List Event → Bool
 all_sound [] = true

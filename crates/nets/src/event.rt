@@ -1,7 +1,7 @@
 // Events of a net: what must hold before one, and what holds after it.
 ghost use Rattle.std.specs.Prelude.{◌≡◌, ℕ, ◌↔◌, Some, IsTrue};
 ghost use Rattle.nets.specs.Events.{event_fault, add_answer};
-ghost use Rattle.nets.specs.Firing.{touched, fired, apart, Fires, Apart};
+ghost use Rattle.nets.specs.Firing.{conditions, fire, apart_from, Fires, Apart};
 
 use actions::action::is_action;
 use byte_strings::list::Blank;
@@ -45,14 +45,14 @@ impl Blank for Event {
 impl Event {
     // The conditions before or after the event.
     fn conditions(self) -> u64
-        ensures { result ≡ touched self }
+        ensures { result ≡ conditions self }
     {
         self.before | self.after
     }
 
     // The marking that follows by the event, or that it is not possible.
     pub fn fire(self, marking: u64) -> Option<u64>
-        ensures value { result ≡ fired self marking }
+        ensures value { result ≡ fire self marking }
         ensures rule { (m : ℕ) → (result ≡ Some m) ↔ Fires self marking m }
     {
         if marking & self.before == self.before && marking & self.after == 0 {
@@ -64,7 +64,7 @@ impl Event {
 
     // Whether no condition is at both events.
     pub fn apart_from(self, other: Event) -> bool
-        ensures value { result ≡ apart self other }
+        ensures value { result ≡ apart_from self other }
         ensures rule { (IsTrue result) ↔ Apart self other }
     {
         self.conditions() & other.conditions() == 0

@@ -1,7 +1,7 @@
 use Rattle.std.proofs.Common.{rules, Ok, sym, ap, ◌∙◌, arith}
 use Rattle.std.specs.Array.{IsWholeChunk}
 use Rattle.nets.specs.System.{marking_answer}
-use Rattle.nets.specs.Markings.{spelled, read_eight}
+use Rattle.nets.specs.Laws.Markings.{spelled, read_eight}
 use Rattle.nets.proofs.marking.read.Goals as goal
 
 pub returns : goal.returns

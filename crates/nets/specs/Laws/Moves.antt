@@ -10,12 +10,12 @@ use Rattle.actions.specs.Action.{is_action}
 use Rattle.nets.specs.declared.event.Event.{Event}
 use Rattle.nets.specs.declared.event.EventFault.{EventFault}
 use Rattle.nets.specs.Marking.{bytes_of}
-use Rattle.nets.specs.Events.{filled, disjoint, event_fault, narrow, sound_event, all_sound}
-use Rattle.nets.specs.Firing.{touched, possible, switched, fired, apart}
-use Rattle.nets.specs.System.{found, read_event, after_firing, follow, remains}
-use Rattle.nets.specs.Cases.{some_same, none_some, ok_same, err_ok}
-use Rattle.nets.specs.FiringLemmas.{fired_possible, fired_impossible}
-use Rattle.nets.specs.Bits.{bit, bit_zero, bit_of_and, bit_of_or, bit_of_xor, same_bits}
+use Rattle.nets.specs.Events.{has_conditions, shares_none, event_fault, is_narrow, sound_event, all_sound}
+use Rattle.nets.specs.Firing.{conditions, is_ready, marking_after, fire, apart_from}
+use Rattle.nets.specs.System.{lone_event, read_event, spelled_state, next_state, rest_of}
+use Rattle.nets.specs.Laws.Cases.{some_same, none_some, ok_same, err_ok}
+use Rattle.nets.specs.Laws.FiringLemmas.{fired_possible, fired_impossible}
+use Rattle.nets.specs.Laws.Bits.{bit, bit_zero, bit_of_and, bit_of_or, bit_of_xor, same_bits}
 
 -- what the laws use of an event of a net
 pub record Sound (e : Event) : Type 0 where
@@ -30,9 +30,9 @@ no_fault_filled false b c f g h e = absurd (false≢true e)
 
 sound_from : (e : Event) → IsTrue (sound_event e) → Sound e
 sound_from e h =
-    let parts = and_parts (narrow e) (not (is_some (event_fault e))) h in
+    let parts = and_parts (is_narrow e) (not (is_some (event_fault e))) h in
     let widths = and_parts (nat_lt e.before (2 ^ 64)) (nat_lt e.after (2 ^ 64)) parts.0 in
-    let sets = no_fault_filled (is_action e.action) (filled e) (disjoint e) _ _ _ parts.1 in
+    let sets = no_fault_filled (is_action e.action) (has_conditions e) (shares_none e) _ _ _ parts.1 in
     let before = (and_parts (not (e.before == 0)) (not (e.after == 0)) sets).0 in
     let apart0 : e.before ≡ 0 → ⊥ = eqb-false e.before 0 (not-true (e.before == 0) before) in
     record { low = ltb-true e.before (2 ^ 64) widths.0; high = ltb-true e.after (2 ^ 64) widths.1; some = omega arith }
@@ -51,21 +51,21 @@ pub read_named : (es : List Event) → IsTrue (all_sound es) → (x : Str) (e : 
 read_named es h [] e r = absurd (err_ok r)
 read_named es h (k ∷ x) e r = found_named (slice_get es k) x r (nth_sound es k e h)
   where
-    found_named : (o : Option Event) (x : Str) {k : ℕ} {e : Event} → found o x ≡ Ok e → (o ≡ Some e → Sound e) → Named (k ∷ x) e
+    found_named : (o : Option Event) (x : Str) {k : ℕ} {e : Event} → lone_event o x ≡ Ok e → (o ≡ Some e → Sound e) → Named (k ∷ x) e
     found_named None x r s = absurd (err_ok r)
     found_named (Some f) [] r s = record { one = refl; sound = s (cc) }
     found_named (Some f) (b ∷ x) r s = absurd (err_ok r)
 
-pub touched_narrow : (e : Event) → Sound e → touched e < 2 ^ 64
+pub touched_narrow : (e : Event) → Sound e → conditions e < 2 ^ 64
 touched_narrow e s = or_lt 64 e.before e.after s.low s.high
 
 -- an event is at some condition, so it is not independent of itself
-pub never_apart : (e : Event) → Sound e → IsFalse (apart e e)
+pub never_apart : (e : Event) → Sound e → IsFalse (apart_from e e)
 never_apart e s =
-    ne_eqb (bit_and (touched e) (touched e)) 0 (λ z. omega (arith, and_self (touched e), or_add_and e.before e.after, and_le_r e.before e.after, s.some))
+    ne_eqb (bit_and (conditions e) (conditions e)) 0 (λ z. omega (arith, and_self (conditions e), or_add_and e.before e.after, and_le_r e.before e.after, s.some))
 
-pub apart_comm : (e f : Event) → apart e f ≡ apart f e
-apart_comm e f = ap (λ (n : ℕ). nat_eq n 0) (and_comm (touched e) (touched f))
+pub apart_comm : (e f : Event) → apart_from e f ≡ apart_from f e
+apart_comm e f = ap (λ (n : ℕ). nat_eq n 0) (and_comm (conditions e) (conditions f))
 
 -- changing conditions outside a set u does not change which of a part b of it hold
 one_untouched : (m t b u : ℕ) → m < 2 → t < 2 → b ≤ u → u < 2 → min t u ≡ 0 → min ((m + t) % 2) b ≡ min m b
@@ -79,27 +79,27 @@ untouched m t b u low part none =
     ∙ sym (bit_of_and m b c))
 
 -- an event is possible after an independent one exactly if it was before
-pub still_possible : (e f : Event) (m : ℕ) → Sound f → IsTrue (apart e f) → possible f (switched e m) ≡ possible f m
+pub still_possible : (e f : Event) (m : ℕ) → Sound f → IsTrue (apart_from e f) → is_ready f (marking_after e m) ≡ is_ready f m
 still_possible e f m s a =
-    let none = eqb-true (bit_and (touched e) (touched f)) 0 a in
+    let none = eqb-true (bit_and (conditions e) (conditions f)) 0 a in
     ap₂ (λ (b n : ℕ). (b == f.before) && n == 0)
-    (untouched m (touched e) f.before (touched f) s.low (λ c. omega (arith, bit_of_or f.before f.after c)) none)
-    (untouched m (touched e) f.after (touched f) s.high (λ c. omega (arith, bit_of_or f.before f.after c)) none)
+    (untouched m (conditions e) f.before (conditions f) s.low (λ c. omega (arith, bit_of_or f.before f.after c)) none)
+    (untouched m (conditions e) f.after (conditions f) s.high (λ c. omega (arith, bit_of_or f.before f.after c)) none)
 
 -- an event takes a marking to a state
 pub record Steps (e : Event) (m : ℕ) (b : Str) : Type 0 where
-  pub ready : IsTrue (possible e m)
-  pub end : bytes_of (switched e m) ≡ b
+  pub ready : IsTrue (is_ready e m)
+  pub end : bytes_of (marking_after e m) ≡ b
 
-steps : (e : Event) (m : ℕ) (b : Str) → after_firing (fired e m) ≡ Ok b → Steps e m b
+steps : (e : Event) (m : ℕ) (b : Str) → spelled_state (fire e m) ≡ Ok b → Steps e m b
 steps e m b h =
     ⊎_elim
-    (λ p. record { ready = p; end = ok_same (sym (ap after_firing (fired_possible e m p)) ∙ h) })
-    (λ p. absurd (err_ok (sym (ap after_firing (fired_impossible e m p)) ∙ h)))
-    (cases_Bool (possible e m))
+    (λ p. record { ready = p; end = ok_same (sym (ap spelled_state (fired_possible e m p)) ∙ h) })
+    (λ p. absurd (err_ok (sym (ap spelled_state (fired_impossible e m p)) ∙ h)))
+    (cases_Bool (is_ready e m))
 
-pub moved_as : (e : Event) (m : ℕ) (b : Str) {p : Result Event ℕ} {r : Result ℕ ℕ} → p ≡ Ok e → r ≡ Ok m → follow p r ≡ Ok b → Steps e m b
-moved_as e m b by from h = steps e m b (sym (ap₂ follow by from) ∙ h)
+pub moved_as : (e : Event) (m : ℕ) (b : Str) {p : Result Event ℕ} {r : Result ℕ ℕ} → p ≡ Ok e → r ≡ Ok m → next_state p r ≡ Ok b → Steps e m b
+moved_as e m b by from h = steps e m b (sym (ap₂ next_state by from) ∙ h)
 
 -- what was read for a move
 pub record Moved (p : Result Event ℕ) (r : Result ℕ ℕ) : Type 0 where
@@ -108,13 +108,13 @@ pub record Moved (p : Result Event ℕ) (r : Result ℕ ℕ) : Type 0 where
   pub by : p ≡ Ok event
   pub from : r ≡ Ok marking
 
-pub moved_from : (p : Result Event ℕ) (r : Result ℕ ℕ) (b : Str) → follow p r ≡ Ok b → Moved p r
+pub moved_from : (p : Result Event ℕ) (r : Result ℕ ℕ) (b : Str) → next_state p r ≡ Ok b → Moved p r
 moved_from (Ok e) (Ok m) b h = record { event = e; marking = m; by = refl; from = refl }
 moved_from (Ok e) (Err q) b h = absurd (err_ok h)
 moved_from (Err q) r b h = absurd (err_ok h)
 
-pub moves : (e : Event) (m : ℕ) {p : Result Event ℕ} {r : Result ℕ ℕ} → p ≡ Ok e → r ≡ Ok m → IsTrue (possible e m) → follow p r ≡ Ok (bytes_of (switched e m))
-moves e m p r h = ap₂ follow p r ∙ ap after_firing (fired_possible e m h)
+pub moves : (e : Event) (m : ℕ) {p : Result Event ℕ} {r : Result ℕ ℕ} → p ≡ Ok e → r ≡ Ok m → IsTrue (is_ready e m) → next_state p r ≡ Ok (bytes_of (marking_after e m))
+moves e m p r h = ap₂ next_state p r ∙ ap spelled_state (fired_possible e m h)
 
 -- what is left of an event, where something is: itself, and the two events are independent
 pub record Left (p q : Result Event ℕ) (x z : Str) : Type 0 where
@@ -122,19 +122,19 @@ pub record Left (p q : Result Event ℕ) (x z : Str) : Type 0 where
   pub other : Event
   pub first : p ≡ Ok event
   pub second : q ≡ Ok other
-  pub free : IsTrue (apart event other)
+  pub free : IsTrue (apart_from event other)
   pub same : x ≡ z
 
-pub left_from : (p q : Result Event ℕ) (x z : Str) → remains x p q ≡ Some z → Left p q x z
+pub left_from : (p q : Result Event ℕ) (x z : Str) → rest_of x p q ≡ Some z → Left p q x z
 left_from (Ok e) (Ok f) x z h =
     ⊎_elim
-    (λ a. record { event = e; other = f; first = refl; second = refl; free = a; same = some_same (sym (cond-true (apart e f) (Some x) None a) ∙ h) })
-    (λ a. absurd (none_some (sym (cond-false (apart e f) (Some x) None a) ∙ h)))
-    (cases_Bool (apart e f))
+    (λ a. record { event = e; other = f; first = refl; second = refl; free = a; same = some_same (sym (cond-true (apart_from e f) (Some x) None a) ∙ h) })
+    (λ a. absurd (none_some (sym (cond-false (apart_from e f) (Some x) None a) ∙ h)))
+    (cases_Bool (apart_from e f))
 left_from (Ok e) (Err k) x z h = absurd (none_some h)
 left_from (Err k) q x z h = absurd (none_some h)
 
-pub remains_comm : (x : Str) (p q : Result Event ℕ) → remains x p q ≡ remains x q p
+pub remains_comm : (x : Str) (p q : Result Event ℕ) → rest_of x p q ≡ rest_of x q p
 remains_comm x (Ok e) (Ok f) = ap (λ (b : Bool). (if b then Some x else None)) (apart_comm e f)
 remains_comm x (Ok e) (Err k) = refl
 remains_comm x (Err k) (Ok f) = refl

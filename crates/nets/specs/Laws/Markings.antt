@@ -8,7 +8,7 @@ use Rattle.std.proofs.lemmas.Bool.{and_from, and_parts, cases_Bool, ltb-true, eq
 use Rattle.std.specs.Int.Digits.{number_from_digits, AllBelowBase}
 use Rattle.steps.specs.Meaning.{Str}
 use Rattle.nets.specs.Marking.{bytes_of, eight_bytes, read_marking}
-use Rattle.nets.specs.Cases.{ok_same, err_ok}
+use Rattle.nets.specs.Laws.Cases.{ok_same, err_ok}
 
 pub bytes_from : (s : Str) → ((i : ℕ) → slice_index s i < 256) → IsTrue (are_bytes s)
 bytes_from [] h = refl
