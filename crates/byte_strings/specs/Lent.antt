@@ -7,7 +7,8 @@ abbrev pub part_view : Option (Bor Str) → Option Str
 part_view None = None
 part_view (Some s) = Some s.now
 
-abbrev pub sides_view : Option (Option (Bor Str) × Option (Bor Str)) → Option (Option Str × Option Str)
+abbrev pub sides_view : Option (Option (Bor Str) × Option (Bor Str))
+    → Option (Option Str × Option Str)
 sides_view None = None
 sides_view (Some (l, r)) = Some (part_view l, part_view r)
 

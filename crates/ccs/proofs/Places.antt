@@ -5,6 +5,7 @@ use Rattle.std.proofs.Common.{◌≡◌, ◌↔◌, ℕ, zero, suc, min, ◌≤�
 use Rattle.std.proofs.lemmas.List.{length-take, take-append-drop}
 use Rattle.std.specs.Result.{result_err}
 use Rattle.steps.specs.Meaning.{Str}
+use Rattle.steps.specs.Laws.{state_limit, step_limit}
 use Rattle.ccs.specs.Syntax.{Term, Proof}
 use Rattle.ccs.specs.Spelling.{term_bytes, proof_bytes, sound_term, sound_proof}
 use Rattle.ccs.specs.declared.due.Due.{Due}
@@ -126,13 +127,13 @@ module _ (n : ℕ) where
 
 pub state_place : StatePlaces
 state_place ds s p = (
-  λ e. let h = term_place (length ds) 256 s p e in record { no_state = h.0; place = h.1 },
-  λ f. no_term_place (length ds) 256 s p (f.no_state, f.place),
+  λ e. let h = term_place (length ds) state_limit s p e in record { no_state = h.0; place = h.1 },
+  λ f. no_term_place (length ds) state_limit s p (f.no_state, f.place),
 )
 
 pub state_places : (ds : List Term) (s : Str) (p : ℕ) → (terms_transitions ds).bad_state s ≡ Some p
-    → LongestBeginning (IsTerm (length ds)) (take 256 s) p
-state_places ds s p e = (term_place (length ds) 256 s p e).1
+    → LongestBeginning (IsTerm (length ds)) (take state_limit s) p
+state_places ds s p e = (term_place (length ds) state_limit s p e).1
 
 -- of proofs
 proof_read : (s : Str) → IsProof s → (t : Proof) × read proof_byte Node 1 s ≡ Ok (t ∷ [])
@@ -149,29 +150,29 @@ begins_proof s = begins proof_byte proofs.Alive proofs.alive_on proofs.ending No
 
 module _ (ds : List Term) (x : Str) (p : ℕ) where
   pub step_places : (terms_transitions ds).bad_step x ≡ Some p → StepFault x p
-  step_places e = go (past 64 x (result_err (read_proof x))) refl e
+  step_places e = go (past step_limit x (result_err (read_proof x))) refl e
     where
-      on : (r : Result Proof ℕ) → read_proof x ≡ r → past 64 x (result_err r) ≡ None → improper_of r ≡ Some p
-          → StepFault x p
+      on : (r : Result Proof ℕ) → read_proof x ≡ r → past step_limit x (result_err r) ≡ None
+          → improper_of r ≡ Some p → StepFault x p
       on (Ok t) r f e =
           let h = proofs.read_is_proof x t r in
-          not_proper t h.0 h.1 (within_limit 64 x f) (subst (FirstIf (ImproperAt t)) e (improper_first t))
+          not_proper t h.0 h.1 (within_limit step_limit x f) (subst (FirstIf (ImproperAt t)) e (improper_first t))
       on (Err k) r f e = absurd (cc e)
 
-      go : (o : Option ℕ) → past 64 x (result_err (read_proof x)) ≡ o → or_else o (improper_of (read_proof x)) ≡ Some p
-          → StepFault x p
+      go : (o : Option ℕ) → past step_limit x (result_err (read_proof x)) ≡ o
+          → or_else o (improper_of (read_proof x)) ≡ Some p → StepFault x p
       go (Some k) f e =
           let same : k ≡ p = cc e in
-          let h = place IsProof proof_byte proof_read is_proof begins_proof 64 x p (f ∙ ap Some same) in
+          let h = place IsProof proof_byte proof_read is_proof begins_proof step_limit x p (f ∙ ap Some same) in
           unfit h.0 h.1
       go None f e = on (read_proof x) refl f e
 
   fault_place : StepFault x p → (terms_transitions ds).bad_step x ≡ Some p
   fault_place (unfit n b) =
-      rw (unfit_place IsProof proof_byte proof_read is_proof begins_proof 64 x p (n, b)) refl
+      rw (unfit_place IsProof proof_byte proof_read is_proof begins_proof step_limit x p (n, b)) refl
   fault_place (not_proper t e s l f) =
       let is : read_proof x ≡ Ok t = ap read_proof (sym e) ∙ proofs.proof_is_read t s in
-      let none : past 64 x (result_err (read_proof x)) ≡ None = (no_place 64 x (read_proof x)).1 (ap is_ok is, l) in
+      let none = (no_place step_limit x (read_proof x)).1 (ap is_ok is, l) in
       rw (none, is) (first_improper (improper t) (improper_first t))
     where
       first_improper : (o : Option ℕ) → FirstIf (ImproperAt t) o → o ≡ Some p

@@ -8,7 +8,6 @@ pub data After : (t u t' u' : Proof) → Type 0 where
   -- The two sides of a parallel term do not see each other.
   left_right : {t u : Proof} → After (on_left t) (on_right u) (on_left t) (on_right u)
   right_left : {t u : Proof} → After (on_right t) (on_left u) (on_right t) (on_left u)
-
   -- One side alone, and both together: the part that has a partner becomes what is left of it, and
   -- the other part stays.
   left_both : {t u v t' u' : Proof}
@@ -27,7 +26,6 @@ pub data After : (t u t' u' : Proof) → Type 0 where
       → After t v t' v'
       → After u w u' w'
       → After (both t u) (both v w) (both t' u') (both v' w')
-
   -- On one side, and under a restriction, the node stays around what is left.
   left_left : {t u t' u' : Proof}
       → After t u t' u'
@@ -39,7 +37,6 @@ pub data After : (t u t' u' : Proof) → Type 0 where
       → n ≡ m
       → After t u t' u'
       → After (under n t) (under m u) (under n t') (under m u')
-
   -- In one branch of a choice the other step has made the choice, so the node is gone.
   chosen_left : {t u t' u' : Proof}
       → After t u t' u'

@@ -30,7 +30,7 @@ NextByRules =
     → (a x b : Str)
     → ((terms_transitions ds).next a x ≡ Ok b) ↔ Goes ds a x b
 
--- Where a step is not possible in a state, the first node is told that does not fit; and only there.
+-- Exactly where a step is not possible in a state, the first node that does not fit is told.
 abbrev pub MisfitsTold : Type 0
 MisfitsTold =
     (ds : List Term) → IsTrue (sound_bodies (length ds) ds)
@@ -38,7 +38,7 @@ MisfitsTold =
     → (t : Proof) → IsTrue (sound_proof t) → IsTrue (proper t)
     → (k : ℕ)
     → ((terms_transitions ds).next (term_bytes p) (proof_bytes t) ≡ Err k)
-        ↔ First (MisfitAt (body_of ds) p t) k
+    ↔ First (MisfitAt (body_of ds) p t) k
 
 -- A step shows what its proof does.
 abbrev pub LabelsShown : Type 0

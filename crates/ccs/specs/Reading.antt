@@ -9,8 +9,8 @@ use Rattle.ccs.specs.Syntax.Term.{nil, prefix, par, sum, restrict, call}
 use Rattle.ccs.specs.Syntax.Proof.{act, on_left, on_right, both, choose_left, choose_right, under}
 use Rattle.actions.specs.Action.{is_name, is_action}
 
--- What is due behind a byte that fits: the next byte, and how many terms or proofs; and what the byte
--- makes of those that are read there.
+-- What is due behind a byte that fits: the next byte, and how many terms or proofs; and what the
+-- byte makes of those that are read there.
 pub record Next (A : Type 0) : Type 0 where
   pub due : Due
   pub count : ℕ
@@ -66,8 +66,8 @@ with_parts f k = Some (record { due = Node; count = suc (suc k); build = on_firs
 abbrev pub before : {A : Type 0} → Due → ℕ → Option (Next A)
 before d k = Some (record { due = d; count = k; build = λ xs. xs })
 
--- a byte of terms over n definitions, where so many terms are due; behind a node's first byte, one
--- more
+-- a byte of terms over n definitions, where so many terms are due, and one more behind a node's
+-- first byte
 unfoldable pub term_byte : ℕ → Due → ℕ → ℕ → Option (Next Term)
 term_byte n Node zero b = None
 term_byte n Node (suc k) b =

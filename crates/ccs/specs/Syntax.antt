@@ -1,8 +1,8 @@
 -- Terms of the calculus, and proofs of their steps.
 use Rattle.std.specs.Prelude.{ℕ}
 
--- A term does nothing, or does an action and goes on, or runs two terms side by side, or chooses one
--- of two, or keeps a name to itself, or calls a definition by its number.
+-- A term does nothing, or does an action and goes on, or runs two terms side by side, or chooses
+-- one of two, or keeps a name to itself, or calls a definition by its number.
 pub data Term : Type 0 where
   nil : Term
   prefix : (a : ℕ) (p : Term) → Term
