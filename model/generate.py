@@ -53,6 +53,7 @@ from draw_terms import (
     nested_terms,
     random_terms,
     term_of_a_marking,
+    workshop_terms,
 )
 from draw_terms import setup_frame as terms_setup
 from drawing import (
@@ -643,7 +644,7 @@ class Session:
 
     def begin(self, draws: Draws[Any]) -> None:
         self.send_setup(draws.under(random_layers(self.random, draws.names())))
-        self.starts = [self.draws.lively_state() for _ in range(2)]
+        self.starts = [max((self.draws.lively_state() for _ in range(4)), key=len) for _ in range(2)]
         for number in range(SHEETS):
             self.begin_anew(number)
 
@@ -652,7 +653,8 @@ class Session:
 
     def add_one(self) -> None:
         number = self.any_sheet()
-        step = self.possible_step(number)
+        tries = (self.possible_step(number) for _ in range(8))
+        step = next((step for step in tries if step is not None), None)
         if step is None or len(self.sheet(number).steps) == MOST_STEPS:
             self.begin_anew(number)
         else:
@@ -1189,10 +1191,10 @@ def generate_mixed(seed: int, frames: int) -> bytes:
     random = session.random
     moves, weights = list(MIXED_MOVES), list(MIXED_MOVES.values())
     systems: list[Callable[[], Draws[Any]]] = [
-        lambda: random_terms(random, looping_terms),
-        lambda: random_terms(random, chosen_terms),
+        lambda: random_terms(random, workshop_terms),
+        lambda: random_terms(random, workshop_terms),
         lambda: NetDraws(random, Net(tokens_net(random))),
-        lambda: random_terms(random, looping_terms),
+        lambda: random_terms(random, workshop_terms),
     ]
     for part, system in enumerate(systems, 1):
         session.begin(system())
