@@ -19,9 +19,9 @@ pub record Transitions : Type 0 where
   -- whether a mask hides the string, which would be a step without it
   pub hidden : Str → Bool
 
--- Which steps are independent, and what is left of one after the other.
+-- Independence of steps, and what each of two leaves of the other.
 pub record Independence : Type 0 where
-  -- what is left of the first after the second; none where they are dependent
+  -- what the second leaves of the first; none where they are dependent
   pub left : Str → Str → Option Str
   -- the step independent of the first of which the second is left after it
   pub back : Str → Str → Option Str
