@@ -1,4 +1,5 @@
--- What masks and renamings make of a step system, in words of labels and listed names. Assumes nothing.
+-- What masks and renamings make of a step system, in words of labels and listed names. Assumes
+-- nothing.
 use Rattle.std.specs.Prelude.{◌≡◌, ℕ, ◌+◌, Bool, ◌⊎◌, ◌↔◌, List, [], Some, None, Ok, Err, Result, IsTrue}
 use Rattle.std.specs.List.{Contains}
 use Rattle.actions.specs.declared.pairs.Pair.{Pair}
@@ -33,8 +34,8 @@ pub record MaskedSteps (ns : List ℕ) (t : Transitions) (i : Independence) : Ty
   pub rests : (x y z : Str) →
       ((mask_independence ns t i).left x y ≡ Some z)
       ↔ ((i.left x y ≡ Some z)
-        × (ShowsListed ns (t.label x).action → ⊥)
-        × (ShowsListed ns (t.label y).action → ⊥))
+      × (ShowsListed ns (t.label x).action → ⊥)
+      × (ShowsListed ns (t.label y).action → ⊥))
   pub states : (mask_transitions ns t).state ≡ t.state
   pub labels : (mask_transitions ns t).label ≡ t.label
 
@@ -47,41 +48,40 @@ module _ (ns : List ℕ) (t : Transitions) where
   abbrev pub Shaped : Str → Type 0
   Shaped x = t.bad_step x ≡ None
 
-  -- What a mask answers on one step, beside what is answered inside: that it is no step, and at which
-  -- place; else that it is masked, exactly if it shows a listed name or is masked inside; else the same.
-  pub record AnswersOnStep {A : Type 0} (x : Str) (inside answer : Result A MaskFault) : Type 0 where
+  -- What a mask answers on one step, beside what is answered inside: that it is no step, and at
+  -- which place; else that it is masked, exactly if it shows a listed name or is masked inside;
+  -- else the same.
+  pub record AnswersOnStep {A : Type 0} (x : Str)
+      (inside answer : Result A MaskFault) : Type 0 where
     pub unlisted : (Listed x → ⊥) → answer ≡ inside
     pub masked : (answer ≡ Err Masked) ↔ ((Shaped x × Listed x) ⊎ (inside ≡ Err Masked))
     pub no_step : (p : ℕ) → t.bad_step x ≡ Some p → answer ≡ Err (Inner (NoStep p))
 
   -- The same of two steps: that the first or the second is none comes before a mask of either.
-  pub record AnswersOnBoth {A : Type 0} (x y : Str) (inside answer : Result A MaskFault) : Type 0 where
+  pub record AnswersOnBoth {A : Type 0} (x y : Str)
+      (inside answer : Result A MaskFault) : Type 0 where
     pub unlisted : (Listed x → ⊥) → (Listed y → ⊥) → answer ≡ inside
     pub masked :
-      (answer ≡ Err Masked)
-      ↔ ((Shaped x × Shaped y × (Listed x ⊎ Listed y)) ⊎ (inside ≡ Err Masked))
+        (answer ≡ Err Masked)
+        ↔ ((Shaped x × Shaped y × (Listed x ⊎ Listed y)) ⊎ (inside ≡ Err Masked))
     pub no_first : (p : ℕ) → t.bad_step x ≡ Some p → answer ≡ Err (Inner (NoStep p))
     pub no_second : (p : ℕ) → Shaped x → t.bad_step y ≡ Some p → answer ≡ Err (Inner (NoStep p))
 
--- Every question to a mask: of unlisted steps it answers as inside, refusals and places included.
-pub record MaskAnswers (ns : List ℕ) (t : Transitions) (i : Independence) : Type 0 where
-  pub state : (s : Str) → state_answer (mask_transitions ns t) s ≡ state_answer t s
-  pub step : (x : Str) → AnswersOnStep ns t x (step_answer t x) (step_answer (mask_transitions ns t) x)
-  pub label : (x : Str) → AnswersOnStep ns t x (label_answer t x) (label_answer (mask_transitions ns t) x)
+-- Every question to a mask m with the independence j: of unlisted steps it answers as the system
+-- inside, refusals and places included.
+pub record MaskAnswers (ns : List ℕ) (t : Transitions) (i : Independence)
+    (m : Transitions) (j : Independence) : Type 0 where
+  pub state : (s : Str) → state_answer m s ≡ state_answer t s
+  pub step : (x : Str) → AnswersOnStep ns t x (step_answer t x) (step_answer m x)
+  pub label : (x : Str) → AnswersOnStep ns t x (label_answer t x) (label_answer m x)
   pub next : (a x : Str) (n : ℕ) →
-      AnswersOnStep ns t x (next_answer t a x n) (next_answer (mask_transitions ns t) a x n)
+      AnswersOnStep ns t x (next_answer t a x n) (next_answer m a x n)
   pub independent : (x y : Str) →
-      AnswersOnBoth ns t x y
-      (independent_answer t i x y)
-      (independent_answer (mask_transitions ns t) (mask_independence ns t i) x y)
+      AnswersOnBoth ns t x y (independent_answer t i x y) (independent_answer m j x y)
   pub residual : (x y : Str) (n : ℕ) →
-      AnswersOnBoth ns t x y
-      (left_answer t i x y n)
-      (left_answer (mask_transitions ns t) (mask_independence ns t i) x y n)
+      AnswersOnBoth ns t x y (left_answer t i x y n) (left_answer m j x y n)
   pub back : (x z : Str) (n : ℕ) →
-      AnswersOnBoth ns t x z
-      (back_answer t i x z n)
-      (back_answer (mask_transitions ns t) (mask_independence ns t i) x z n)
+      AnswersOnBoth ns t x z (back_answer t i x z n) (back_answer m j x z n)
 
 -- The action becomes another: a name as its pair says, a co-name likewise; all else stays.
 pub data Renames (ps : List Pair) (a c : ℕ) : Type 0 where
@@ -107,18 +107,20 @@ abbrev pub renamed_answer : List Pair → Result Label MaskFault → Result Labe
 renamed_answer ps (Ok l) = Ok (renamed_label ps l)
 renamed_answer ps (Err f) = Err f
 
--- Every question to a renaming: but for the name in a label it answers as inside, refusals and places included.
-pub record RenamingAnswers (ps : List Pair) (t : Transitions) (i : Independence) : Type 0 where
-  pub state : (s : Str) → state_answer (renaming_transitions ps t) s ≡ state_answer t s
-  pub step : (x : Str) → step_answer (renaming_transitions ps t) x ≡ step_answer t x
-  pub label : (x : Str) → label_answer (renaming_transitions ps t) x ≡ renamed_answer ps (label_answer t x)
-  pub next : (a x : Str) (n : ℕ) → next_answer (renaming_transitions ps t) a x n ≡ next_answer t a x n
-  pub independent : (x y : Str) →
-      independent_answer (renaming_transitions ps t) i x y ≡ independent_answer t i x y
-  pub residual : (x y : Str) (n : ℕ) → left_answer (renaming_transitions ps t) i x y n ≡ left_answer t i x y n
-  pub back : (x z : Str) (n : ℕ) → back_answer (renaming_transitions ps t) i x z n ≡ back_answer t i x z n
+-- Every question to a renaming m with the independence j: but for the name in a label it answers as
+-- the system inside, refusals and places included.
+pub record RenamingAnswers (ps : List Pair) (t : Transitions) (i : Independence)
+    (m : Transitions) (j : Independence) : Type 0 where
+  pub state : (s : Str) → state_answer m s ≡ state_answer t s
+  pub step : (x : Str) → step_answer m x ≡ step_answer t x
+  pub label : (x : Str) → label_answer m x ≡ renamed_answer ps (label_answer t x)
+  pub next : (a x : Str) (n : ℕ) → next_answer m a x n ≡ next_answer t a x n
+  pub independent : (x y : Str) → independent_answer m j x y ≡ independent_answer t i x y
+  pub residual : (x y : Str) (n : ℕ) → left_answer m j x y n ≡ left_answer t i x y n
+  pub back : (x z : Str) (n : ℕ) → back_answer m j x z n ≡ back_answer t i x z n
 
--- A mask over a renaming goes by the name that a step has got: one that had a listed name and got another stays.
+-- A mask over a renaming goes by the name that a step has got: one that had a listed name and got
+-- another stays.
 pub record MaskedRenamed (ns : List ℕ) (ps : List Pair) (t : Transitions) : Type 0 where
   pub paired : (x : Str) (p : Pair) → Contains ps p → Shows (t.label x).action p.from →
       (IsTrue ((mask_transitions ns (renaming_transitions ps t)).step x))
@@ -134,6 +136,7 @@ pub record NothingListed (t : Transitions) (i : Independence) : Type 0 where
   pub renaming : renaming_transitions [] t ≡ t
 
 -- The laws hold over every system of which they hold.
-pub record LawsKept (ns : List ℕ) (ps : List Pair) (t : Transitions) (i : Independence) : Type 0 where
+pub record LawsKept (ns : List ℕ) (ps : List Pair) (t : Transitions)
+    (i : Independence) : Type 0 where
   pub mask : Laws t i → Laws (mask_transitions ns t) (mask_independence ns t i)
   pub renaming : Laws t i → Laws (renaming_transitions ps t) i

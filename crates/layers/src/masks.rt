@@ -3,6 +3,7 @@ ghost use Rattle.std.specs.Prelude.{◌≡◌, Ok};
 ghost use Rattle.actions.specs.Contents.{names_of};
 ghost use Rattle.steps.specs.Answers.{both_answer};
 ghost use Rattle.layers.specs.Mask.{mask_transitions, mask_independence};
+ghost use Rattle.layers.specs.Promises.{MaskAnswers};
 ghost use Rattle.layers.specs.Laws.MaskLaws.{mask_laws};
 
 use actions::names::Names;
@@ -10,7 +11,8 @@ use steps::fault::MaskFault;
 use steps::label::Label;
 use steps::system::StepSystem;
 
-// A step that shows one of the names, or the co-name of one, is sent back as masked and is no step of the mask.
+// A step that shows one of the names, or the co-name of one, is sent back as masked and is no step
+// of the mask.
 #[derive(Clone, Copy)]
 pub struct Mask<S> {
     pub system: S,
@@ -18,9 +20,28 @@ pub struct Mask<S> {
 }
 
 impl<S: StepSystem> Mask<S> {
-    // Does the mask let both steps through? A string that is no step is sent back before one that is masked.
+    // Takes from the system the steps that show one of the names. Of other steps it answers every
+    // question as the system does; a step that it takes away is told as masked, but behind a string
+    // that is no step.
+    pub fn over(system: S, names: Names) -> Mask<S>
+        ensures system { result.system ≡ system }
+        ensures names { result.names ≡ names }
+        ensures answers { MaskAnswers (names_of names)
+            (S.transitions system) (S.independence system)
+            (mask_transitions (names_of result.names) (S.transitions result.system))
+            (mask_independence (names_of result.names) (S.transitions result.system)
+            (S.independence result.system)) }
+    {
+        Mask { system, names }
+    }
+
+    // Does the mask let both steps through? A string that is no step is sent back before one that
+    // is masked.
     fn both_shown(&self, x: &[u8], y: &[u8]) -> Result<(), MaskFault>
-        ensures { result ≡ both_answer (mask_transitions (names_of self.now.names) (S.transitions self.now.system)) x.now y.now (Ok tt) }
+        ensures { result
+            ≡ both_answer
+            (mask_transitions (names_of self.now.names) (S.transitions self.now.system))
+            x.now y.now (Ok tt) }
     {
         let first = self.step(x);
         if let Err(MaskFault::Inner(fault)) = first {
@@ -34,9 +55,11 @@ impl<S: StepSystem> Mask<S> {
 impl<S: StepSystem> StepSystem for Mask<S> {
     ghost transitions = { λ m. mask_transitions (names_of m.names) (S.transitions m.system) };
 
-    ghost independence = { λ m. mask_independence (names_of m.names) (S.transitions m.system) (S.independence m.system) };
+    ghost independence = { λ m. mask_independence (names_of m.names)
+        (S.transitions m.system) (S.independence m.system) };
 
-    ghost lawful = { λ m. mask_laws (names_of m.names) (S.transitions m.system) (S.independence m.system) (S.lawful m.system) };
+    ghost lawful = { λ m. mask_laws (names_of m.names)
+        (S.transitions m.system) (S.independence m.system) (S.lawful m.system) };
 
     fn state(&self, state: &[u8]) -> Result<(), MaskFault> {
         self.system.state(state)

@@ -2,6 +2,7 @@
 ghost use Rattle.std.specs.Prelude.{◌≡◌};
 ghost use Rattle.actions.specs.Contents.{pairs_of};
 ghost use Rattle.layers.specs.Renaming.{renaming_transitions};
+ghost use Rattle.layers.specs.Promises.{RenamingAnswers};
 ghost use Rattle.layers.specs.Laws.RenamingLaws.{renaming_laws};
 
 use actions::pairs::Pairs;
@@ -16,12 +17,28 @@ pub struct Renaming<S> {
     pub pairs: Pairs,
 }
 
+impl<S: StepSystem> Renaming<S> {
+    // Shows other names for those that the system's steps show. Every question else it answers as
+    // the system does, and what is refused there is refused.
+    pub fn over(system: S, pairs: Pairs) -> Renaming<S>
+        ensures system { result.system ≡ system }
+        ensures pairs { result.pairs ≡ pairs }
+        ensures answers { RenamingAnswers (pairs_of pairs)
+            (S.transitions system) (S.independence system)
+            (renaming_transitions (pairs_of result.pairs) (S.transitions result.system))
+            (S.independence result.system) }
+    {
+        Renaming { system, pairs }
+    }
+}
+
 impl<S: StepSystem> StepSystem for Renaming<S> {
     ghost transitions = { λ r. renaming_transitions (pairs_of r.pairs) (S.transitions r.system) };
 
     ghost independence = { λ r. S.independence r.system };
 
-    ghost lawful = { λ r. renaming_laws (pairs_of r.pairs) (S.transitions r.system) (S.independence r.system) (S.lawful r.system) };
+    ghost lawful = { λ r. renaming_laws (pairs_of r.pairs)
+        (S.transitions r.system) (S.independence r.system) (S.lawful r.system) };
 
     fn state(&self, state: &[u8]) -> Result<(), MaskFault> {
         self.system.state(state)

@@ -17,7 +17,8 @@ use Rattle.systems.specs.Possible.{ShownAs, Stopped}
 use Rattle.systems.proofs.DesignRules.{FollowsRules}
 use Rattle.systems.proofs.Judged.{ByRules}
 
-module _ (d : Design) (ps : List Pair) (ns : List ℕ) (pairs : sound_pairs ps ≡ true) (names : all_names ns ≡ true) (r : FollowsRules d) where
+module _ (d : Design) (ps : List Pair) (ns : List ℕ) (pairs : sound_pairs ps ≡ true) (names : all_names ns ≡ true)
+    (r : FollowsRules d) where
   -- below the mask, and with it
   abbrev renamed : Transitions
   renamed = renaming_transitions ps (transitions_of d)
@@ -67,27 +68,34 @@ module _ (d : Design) (ps : List Pair) (ns : List ℕ) (pairs : sound_pairs ps �
 
   moves : (a x b : Str) → layered.hidden x ≡ false → (layered.next a x ≡ Ok b) ↔ Moves d a x b
   moves a x b shown =
-      let same : layered.next a x ≡ (transitions_of d).next a x = ap (λ h. cond h (Err 0) ((transitions_of d).next a x)) (not_stopped x shown) in
+      let same : layered.next a x
+      ≡ (transitions_of d).next a x =
+      ap (λ h. cond h (Err 0) ((transitions_of d).next a x)) (not_stopped x shown) in
       let rule = r.moves a x b in
       (λ e. rule.0 (sym same ∙ e), λ h. same ∙ rule.1 h)
 
   stuck : (a x : Str) (p : ℕ) → layered.hidden x ≡ false → WithinState d a → WithinStep d x →
       (layered.next a x ≡ Err p) ↔ (((b : Str) → Moves d a x b → ⊥) × StuckAt d a x p)
   stuck a x p shown state step =
-      let same : layered.next a x ≡ (transitions_of d).next a x = ap (λ h. cond h (Err 0) ((transitions_of d).next a x)) (not_stopped x shown) in
+      let same : layered.next a x
+      ≡ (transitions_of d).next a x =
+      ap (λ h. cond h (Err 0) ((transitions_of d).next a x)) (not_stopped x shown) in
       let rule = r.stuck a x p state step in
       (λ e. rule.0 (sym same ∙ e), λ h. same ∙ rule.1 h)
 
-  unstopped : (x y : Str) (o : Option Str) → layered.hidden x ≡ false → layered.hidden y ≡ false → cond (stops ns renamed x || stops ns renamed y) None o ≡ o
+  unstopped : (x y : Str) (o : Option Str) → layered.hidden x ≡ false → layered.hidden y ≡ false
+      → cond (stops ns renamed x || stops ns renamed y) None o ≡ o
   unstopped x y o e f = ap₂ (λ h k. cond (h || k) None o) (not_stopped x e) (not_stopped y f)
 
-  left : (x y z : Str) → layered.hidden x ≡ false → layered.hidden y ≡ false → (left_layered.left x y ≡ Some z) ↔ LeftOf d x y z
+  left : (x y z : Str) → layered.hidden x ≡ false → layered.hidden y ≡ false
+      → (left_layered.left x y ≡ Some z) ↔ LeftOf d x y z
   left x y z e f =
       let same = unstopped x y ((independence_of d).left x y) e f in
       let rule = r.left x y z in
       (λ h. rule.0 (sym same ∙ h), λ h. same ∙ rule.1 h)
 
-  back : (x z y : Str) → layered.hidden x ≡ false → layered.hidden z ≡ false → (left_layered.back x z ≡ Some y) ↔ LeftOf d y x z
+  back : (x z y : Str) → layered.hidden x ≡ false → layered.hidden z ≡ false
+      → (left_layered.back x z ≡ Some y) ↔ LeftOf d y x z
   back x z y e f =
       let same = unstopped x z ((independence_of d).back x z) e f in
       let rule = r.back x z y in

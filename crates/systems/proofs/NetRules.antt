@@ -51,7 +51,8 @@ module _ (es : List Event) (sound : IsTrue (all_sound es)) where
       (λ p q h g. one_place es x p q h.1 g.1)
       (λ p e h. h.0 ((within_step x).0 e))
 
-  state_place : (s : Str) (p : ℕ) → All (λ byte. byte < 256) s → ((net_transitions es).bad_state s ≡ Some p) ↔ NoStateAt (of_net es) s p
+  state_place : (s : Str) (p : ℕ) → All (λ byte. byte < 256) s
+      → ((net_transitions es).bad_state s ≡ Some p) ↔ NoStateAt (of_net es) s p
   state_place s p bytes =
       exactly_told ((net_transitions es).bad_state s) (NoStateAt (of_net es) s)
       (λ p e. (λ w. absurd (cc (sym ((within_state s).1 w) ∙ e)), net_state_places es s p bytes e))

@@ -1,4 +1,5 @@
--- The program's system answers as the rules say: a design that exists is sound, so it follows them, and so do the layers.
+-- The program's system answers as the rules say: a design that exists is sound, so it follows them, and so do the
+-- layers.
 use Rattle.std.proofs.Common.{◌≡◌, ℕ, List}
 use Rattle.actions.specs.declared.names.Names.{Names}
 use Rattle.actions.specs.declared.pairs.Pairs.{Pairs}
@@ -25,7 +26,8 @@ design_follows (variant.Net n) = net_follows (events_of n) n.sound
 pub possible_by_rules : (s : TermsOrNet) (pairs : Pairs) (names : Names) →
     Possible (design_of s) (pairs_of pairs) (names_of names)
     (mask_transitions (names_of names) (renaming_transitions (pairs_of pairs) (transitions_of (design_of s))))
-    (mask_independence (names_of names) (renaming_transitions (pairs_of pairs) (transitions_of (design_of s))) (independence_of (design_of s)))
+    (mask_independence (names_of names) (renaming_transitions (pairs_of pairs) (transitions_of (design_of s)))
+    (independence_of (design_of s)))
 possible_by_rules s pairs names =
     possible (design_of s) (pairs_of pairs) (names_of names) _ _
     (layered_by_rules (design_of s) (pairs_of pairs) (names_of names) pairs.sound names.sound (design_follows s))

@@ -1,5 +1,5 @@
--- What the program's system holds, and what it means: terms or a net, behind pairs that rename what steps show, behind
--- names that mask them. Assumes nothing.
+-- What the program's system holds, and what it means: terms or a net, behind pairs that rename what
+-- steps show, behind names that mask them. Assumes nothing.
 use Rattle.std.specs.Prelude.{ℕ, List}
 use Rattle.actions.specs.declared.pairs.Pair.{Pair}
 use Rattle.actions.specs.Contents.{names_of, pairs_of}
@@ -17,7 +17,11 @@ pub record Layered : Type 0 where
   pub names : List ℕ
 
 abbrev pub layered_of : Mask (Renaming TermsOrNet) → Layered
-layered_of m = record { design = design_of m.system.system; pairs = pairs_of m.system.pairs; names = names_of m.names }
+layered_of m = record {
+  design = design_of m.system.system;
+  pairs = pairs_of m.system.pairs;
+  names = names_of m.names;
+}
 
 -- what a step shows below the mask is renamed
 abbrev pub renamed_transitions : Layered → Transitions
@@ -27,7 +31,8 @@ abbrev pub layered_transitions : Layered → Transitions
 layered_transitions l = mask_transitions l.names (renamed_transitions l)
 
 abbrev pub layered_independence : Layered → Independence
-layered_independence l = mask_independence l.names (renamed_transitions l) (independence_of l.design)
+layered_independence l = mask_independence l.names (renamed_transitions l)
+    (independence_of l.design)
 
 -- what the system means, as a step system
 abbrev pub transitions_of_system : Mask (Renaming TermsOrNet) → Transitions

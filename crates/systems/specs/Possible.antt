@@ -1,7 +1,9 @@
--- The whole meaning of "possible": what the program's system, a design behind a renaming behind a mask, accepts, and
--- what it refuses, in which order and at which place. In words of the rules and not of the code. Assumes nothing.
+-- The whole meaning of "possible": what the program's system, a design behind a renaming behind a
+-- mask, accepts, and what it refuses, in which order and at which place. In words of the rules and
+-- not of the code. Assumes nothing.
 use Rattle.std.specs.Prelude.{◌≡◌, ℕ, ◌<◌, ◌≤◌, min, Bool, true, false, ◌⊎◌, ◌↔◌, List, length, Some, None, Ok, Err, All}
 use Rattle.actions.specs.declared.pairs.Pair.{Pair}
+use Rattle.actions.specs.Contents.{names_of, pairs_of}
 use Rattle.steps.specs.declared.label.Label.{Label}
 use Rattle.steps.specs.declared.fault.MaskFault.{MaskFault}
 use Rattle.steps.specs.declared.fault.MaskFault.TheVariants.{Masked, Inner}
@@ -10,7 +12,6 @@ use Rattle.steps.specs.Meaning.{Str, Transitions, Independence}
 use Rattle.steps.specs.Laws.{state_limit, step_limit}
 use Rattle.steps.specs.Answers.{told_length, state_answer, step_answer, label_answer, next_answer, independent_answer, left_answer, back_answer}
 use Rattle.layers.specs.Promises.{ShowsListed, Renames}
-use Rattle.actions.specs.Contents.{names_of, pairs_of}
 use Rattle.layers.specs.declared.masks.Mask.{Mask}
 use Rattle.layers.specs.declared.renamings.Renaming.{Renaming}
 use Rattle.systems.specs.declared.terms_or_net.TermsOrNet.{TermsOrNet}
@@ -37,10 +38,15 @@ module _ (d : Design) (ps : List Pair) (ns : List ℕ) where
     pub step : WithinStep d x
     pub shown : Stopped x → ⊥
 
-  -- Why a step is refused whatever else is asked: it is none, told with its place; else the mask stops it.
+  -- Why a step is refused whatever else is asked: it is none, told with its place; else the mask
+  -- stops it.
   pub data StepRefused (x : Str) : MaskFault → Type 0 where
     no_step : {p : ℕ} → NoStepAt d x p → StepRefused x (Inner (NoStep p))
     masked : WithinStep d x → Stopped x → StepRefused x Masked
+
+  -- Why a string is refused as a state: it is none, told with its place.
+  pub data StateRefused (s : Str) : MaskFault → Type 0 where
+    no_state : {p : ℕ} → NoStateAt d s p → StateRefused s (Inner (NoState p))
 
   -- From the state a by the step x the state b follows, and fits the limit and a buffer of n bytes.
   pub record Accepted (a x : Str) (n : ℕ) (b : Str) : Type 0 where
@@ -54,12 +60,13 @@ module _ (d : Design) (ps : List Pair) (ns : List ℕ) where
     -- no step, or masked
     step : {f : MaskFault} → StepRefused x f → Refused a x n f
     -- no state
-    no_state : {p : ℕ} → Allowed x → NoStateAt d a p → Refused a x n (Inner (NoState p))
+    state : {f : MaskFault} → Allowed x → StateRefused a f → Refused a x n f
     -- not possible
     not_possible : {p : ℕ} → Allowed x → WithinState d a → ((b : Str) → Moves d a x b → ⊥) →
         StuckAt d a x p → Refused a x n (Inner (Impossible p))
-    -- the state that follows is too long: the length that it needs
-    too_long : (b : Str) → Allowed x → WithinState d a → Moves d a x b → min n state_limit < length b →
+    -- the state that follows is too long for the limit or the buffer: the length that it needs
+    too_long : (b : Str) → Allowed x → WithinState d a → Moves d a x b →
+        min n state_limit < length b →
         Refused a x n (Inner (StateTooLong (told_length (length b))))
 
   -- Why two steps are refused: the first is none, the second is none, the mask stops one of them.
@@ -72,24 +79,29 @@ module _ (d : Design) (ps : List Pair) (ns : List ℕ) where
   abbrev pub Independent : Str → Str → Type 0
   Independent x y = (z : Str) × LeftOf d x y z
 
-  -- Of two allowed steps a third is answered, where there is one, and fits the limit and a buffer of n bytes.
+  -- Of two allowed steps a third is answered, where there is one, and fits the limit and a buffer
+  -- of n bytes.
   pub record StepAnswered (x y : Str) (Is : Str → Type 0) (n : ℕ) (z : Str) : Type 0 where
     pub first : Allowed x
     pub second : Allowed y
     pub is : Is z
     pub fits : length z ≤ min n step_limit
 
+  -- There is none.
   pub record NoneAnswered (x y : Str) (Is : Str → Type 0) : Type 0 where
     pub first : Allowed x
     pub second : Allowed y
     pub none : (z : Str) → Is z → ⊥
 
+  -- Why neither is answered: one of the two is refused; else the answer is too long for the limit or
+  -- the buffer, told by the length that it needs.
   pub data AnswerRefused (x y : Str) (Is : Str → Type 0) (n : ℕ) : MaskFault → Type 0 where
     steps : {f : MaskFault} → BothRefused x y f → AnswerRefused x y Is n f
     too_long : (z : Str) → Allowed x → Allowed y → Is z → min n step_limit < length z →
         AnswerRefused x y Is n (Inner (StepTooLong (told_length (length z))))
 
-  -- All that is asked of a system with these transitions and this independence is answered so, and refused so.
+  -- All that is asked of a system with these transitions and this independence is answered so, and
+  -- refused so. Where a place in a state is told, it is told of a string of bytes.
   pub record Possible (t : Transitions) (i : Independence) : Type 0 where
     -- from the state a by the step x
     pub next : (a x b : Str) (n : ℕ) → (next_answer t a x n ≡ Ok b) ↔ Accepted a x n b
@@ -97,8 +109,8 @@ module _ (d : Design) (ps : List Pair) (ns : List ℕ) where
         (next_answer t a x n ≡ Err f) ↔ Refused a x n f
     -- whether it is a state
     pub state : (s : Str) → (state_answer t s ≡ Ok tt) ↔ WithinState d s
-    pub state_refused : (s : Str) (p : ℕ) → All (λ byte. byte < 256) s →
-        (state_answer t s ≡ Err (Inner (NoState p))) ↔ NoStateAt d s p
+    pub state_refused : (s : Str) (f : MaskFault) → All (λ byte. byte < 256) s →
+        (state_answer t s ≡ Err f) ↔ StateRefused s f
     -- whether it is a step, and what it shows
     pub step : (x : Str) → (step_answer t x ≡ Ok tt) ↔ Allowed x
     pub step_refused : (x : Str) (f : MaskFault) → (step_answer t x ≡ Err f) ↔ StepRefused x f

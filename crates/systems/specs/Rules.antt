@@ -1,6 +1,7 @@
--- What the rules give a design: its states and steps, which step leads where, what it shows, and what is left of it
--- after another. Terms go by the transition rules, a net by the firing rule. Assumes nothing.
-use Rattle.std.specs.Prelude.{◌≡◌, ℕ, ◌≤◌, List, length, take, IsTrue}
+-- What the rules give a design: its states and steps, which step leads where, what it shows, and
+-- what is left of it after another. Terms go by the transition rules, a net by the firing rule.
+-- Assumes nothing.
+use Rattle.std.specs.Prelude.{◌≡◌, ℕ, ◌≤◌, List, length, IsTrue}
 use Rattle.steps.specs.Meaning.{Str}
 use Rattle.steps.specs.Laws.{state_limit, step_limit}
 use Rattle.steps.specs.Beginning.{LongestBeginning}
@@ -11,7 +12,7 @@ use Rattle.ccs.specs.Beginning.{IsTerm, IsStep}
 use Rattle.ccs.specs.First.{First}
 use Rattle.ccs.specs.Follow.{MisfitAt}
 use Rattle.ccs.specs.System.{body_of}
-use Rattle.ccs.specs.ReadingLaws.{StepFault}
+use Rattle.ccs.specs.ReadingLaws.{StateFault, StepFault}
 use Rattle.ccs.specs.FollowLaws.{Goes}
 use Rattle.ccs.specs.ResidualLaws.{Leaves}
 use Rattle.nets.specs.declared.event.Event.{Event}
@@ -63,10 +64,10 @@ WithinState d s = IsState d s × (length s ≤ state_limit)
 abbrev pub WithinStep : Design → Str → Type 0
 WithinStep d x = IsStepOf d x × (length x ≤ step_limit)
 
--- The string is no state within the limit: the place where its longest beginning that begins one ends.
+-- The string is no state within the limit: the place where its longest beginning that begins one
+-- ends.
 abbrev pub NoStateAt : Design → Str → ℕ → Type 0
-NoStateAt (of_terms ds) s p =
-    (WithinState (of_terms ds) s → ⊥) × LongestBeginning (IsTerm (length ds)) (take state_limit s) p
+NoStateAt (of_terms ds) s p = StateFault (length ds) s p
 NoStateAt (of_net es) s p = (WithinState (of_net es) s → ⊥) × LongestBeginning IsMarking s p
 
 -- It is no step within the limit: the same for steps, or the first improper node of a proof.
@@ -74,7 +75,8 @@ abbrev pub NoStepAt : Design → Str → ℕ → Type 0
 NoStepAt (of_terms ds) x p = StepFault x p
 NoStepAt (of_net es) x p = (WithinStep (of_net es) x → ⊥) × StepPlace es x p
 
--- The state spells a term and the step a proof: the first node that does not fit the term that it comes to.
+-- The state spells a term and the step a proof: the first node that does not fit the term that it
+-- comes to.
 pub record MisfitIn (ds : List Term) (a x : Str) (k : ℕ) : Type 0 where
   pub p : Term
   pub t : Proof

@@ -6,8 +6,10 @@ use Rattle.steps.specs.Meaning.{Transitions, Independence}
 use Rattle.steps.specs.Laws.{Laws}
 use Rattle.layers.specs.Renaming.{renamed_label, renaming_transitions}
 
--- No law but one speaks of labels: what is left of a step shows what the step shows, so both are renamed alike.
-pub renaming_laws : (pairs : List Pair) (t : Transitions) (i : Independence) → Laws t i → Laws (renaming_transitions pairs t) i
+-- No law but one speaks of labels: what is left of a step shows what the step shows, so both are
+-- renamed alike.
+pub renaming_laws : (pairs : List Pair) (t : Transitions) (i : Independence) → Laws t i
+    → Laws (renaming_transitions pairs t) i
 renaming_laws pairs t i l =
     record {
       state_refusals = l.state_refusals;
