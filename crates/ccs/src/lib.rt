@@ -1,6 +1,6 @@
 // Terms of CCS and the proofs of their steps: the bytes that spell them, the transition rules,
-// independence, with what each of two steps leaves of the other; and that terms over some
-// definitions are a step system. Its functions have no code: each names what is proved of the
+// independence of steps and their residuals; and that terms over some definitions are a step
+// system. Its functions have no code: each names what is proved of the
 // definitions. It rests on `byte_strings`, `actions` and `steps`.
 #![tactic(auto)]
 
@@ -37,7 +37,7 @@ pub fn terms_follow_rules()
     ensures labels { LabelsShown }
 {}
 
-/// Independence of steps, and what each of two leaves of the other.
+/// Independence of steps, and residuals.
 ///
 /// Something is left of a step after another exactly where the rules say so. Back answers the step
 /// of which the other is what is left, where there is one.

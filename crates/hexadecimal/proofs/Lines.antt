@@ -1,4 +1,4 @@
--- A line written in three pieces. Assumes nothing.
+-- A line written in three pieces.
 use Rattle.std.proofs.Common.{◌≡◌, ◌+◌, ◌-◌, ◌*◌, ◌<◌, ◌≤◌, [], ◌∷◌, ◌++◌, length, take, drop, set, Some, None, sym, ap, ◌∙◌, arith, length-append}
 use borrow.Rule.Slice.PartMut.{put_mid}
 use Rattle.byte_strings.specs.Buffer.{Str, over, copy_length, buffer_after_copy}

@@ -1,4 +1,4 @@
--- Runs: steps one after the other from a start, each possible where the steps in front of it have led. Assumes nothing.
+-- Runs: from a start, step by step, each where it is possible; and the end that a run comes to.
 use Rattle.std.specs.Prelude.{◌≡◌, true, ◌↔◌, List, [], ◌∷◌, ◌++◌, Ok}
 use Rattle.steps.specs.Meaning.{Str, Transitions, Independence}
 use Rattle.steps.specs.Laws.{Laws}

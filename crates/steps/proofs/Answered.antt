@@ -1,4 +1,4 @@
--- What follows from an answer that was given. Assumes nothing.
+-- What follows from an answer that was given.
 use Rattle.std.proofs.Common.{◌≡◌, ℕ, ◌≤◌, min, Bool, true, false, cond, leb, length, Some, None, Ok, Err, Option, Result, sym, refl, ap, ◌∙◌, subst, arith}
 use Rattle.std.proofs.lemmas.Bool.{leb-true}
 use Rattle.steps.specs.declared.fault.MaskFault.{MaskFault}
