@@ -1,10 +1,13 @@
 // The step system of terms over some definitions: its states are terms, its steps proper proofs.
 ghost use Rattle.std.specs.Prelude.{◌≡◌, length};
-ghost use Rattle.byte_strings.specs.Buffer.{count, buffer_after};
+ghost use Rattle.byte_strings.specs.Buffer.{count, buffer_after, count_some, buffer_after_some};
+ghost use Rattle.steps.specs.Answers.{state_answer, step_answer, label_answer, next_answer, independent_answer, left_answer, back_answer};
+ghost use Rattle.ccs.specs.ResidualLaws.{Leaves};
 ghost use Rattle.ccs.specs.System.{terms_transitions, terms_independence};
 ghost use Rattle.ccs.proofs.System.{terms_laws};
 ghost use Rattle.terms.specs.Contents.{terms_of};
 ghost use Rattle.terms.specs.Sound.{terms_sound};
+ghost use Rattle.terms.specs.Rules.{StateRules, StepRules, LabelRules, NextRules, StepSought, IndependentRules, Written, WrittenIf};
 ghost use Rattle.terms.specs.Answers.{step_checked, state_put};
 
 use crate::place::past;
@@ -52,22 +55,35 @@ impl StepSystem for Terms {
 
     ghost lawful = { λ t. terms_laws (terms_of t) (terms_sound t.count t.bodies t.few t.sound) };
 
-    fn state(&self, state: &[u8]) -> Result<(), MaskFault> {
+    fn state(&self, state: &[u8]) -> Result<(), MaskFault>
+        ensures answer { result ≡ state_answer (terms_transitions (terms_of self.now)) state.now }
+        ensures rules { StateRules (terms_of self.now) state.now result }
+    {
         self.check_state(state)?;
         Ok(())
     }
 
-    fn step(&self, step: &[u8]) -> Result<(), MaskFault> {
+    fn step(&self, step: &[u8]) -> Result<(), MaskFault>
+        ensures answer { result ≡ step_answer (terms_transitions (terms_of self.now)) step.now }
+        ensures rules { StepRules step.now result }
+    {
         check_step(step)?;
         Ok(())
     }
 
-    fn label(&self, step: &[u8]) -> Result<Label, MaskFault> {
+    fn label(&self, step: &[u8]) -> Result<Label, MaskFault>
+        ensures answer { result ≡ label_answer (terms_transitions (terms_of self.now)) step.now }
+        ensures rules { LabelRules step.now result }
+    {
         check_step(step)?;
         Ok(label(step))
     }
 
-    fn next(&self, state: &[u8], step: &[u8], out: &mut [u8]) -> Result<usize, MaskFault> {
+    fn next(&self, state: &[u8], step: &[u8], out: &mut [u8]) -> Result<usize, MaskFault>
+        ensures answer { result ≡ count (next_answer (terms_transitions (terms_of self.now)) state.now step.now (length out.old)) }
+        ensures buffer { out.new ≡ buffer_after (next_answer (terms_transitions (terms_of self.now)) state.now step.now (length out.old)) out.old }
+        ensures rules { Written (NextRules (terms_of self.now) state.now step.now (length out.old)) result out.old out.new }
+    {
         check_step(step)?;
         self.check_state(state)?;
         let mut next = Sink::new();
@@ -78,13 +94,20 @@ impl StepSystem for Terms {
         }
     }
 
-    fn independent(&self, x: &[u8], y: &[u8]) -> Result<bool, MaskFault> {
+    fn independent(&self, x: &[u8], y: &[u8]) -> Result<bool, MaskFault>
+        ensures answer { result ≡ independent_answer (terms_transitions (terms_of self.now)) terms_independence x.now y.now }
+        ensures rules { IndependentRules x.now y.now result }
+    {
         check_step(x)?;
         check_step(y)?;
         Ok(residual(x, y, &mut Sink::new()).is_some())
     }
 
-    fn residual(&self, x: &[u8], y: &[u8], out: &mut [u8]) -> Result<Option<usize>, MaskFault> {
+    fn residual(&self, x: &[u8], y: &[u8], out: &mut [u8]) -> Result<Option<usize>, MaskFault>
+        ensures answer { result ≡ count_some (left_answer (terms_transitions (terms_of self.now)) terms_independence x.now y.now (length out.old)) }
+        ensures buffer { out.new ≡ buffer_after_some (left_answer (terms_transitions (terms_of self.now)) terms_independence x.now y.now (length out.old)) out.old }
+        ensures rules { WrittenIf (StepSought x.now y.now (Leaves x.now y.now) (length out.old)) result out.old out.new }
+    {
         check_step(x)?;
         check_step(y)?;
         let mut left = Sink::new();
@@ -92,7 +115,11 @@ impl StepSystem for Terms {
         put_step_if(answered, left.text(), out)
     }
 
-    fn back(&self, x: &[u8], z: &[u8], out: &mut [u8]) -> Result<Option<usize>, MaskFault> {
+    fn back(&self, x: &[u8], z: &[u8], out: &mut [u8]) -> Result<Option<usize>, MaskFault>
+        ensures answer { result ≡ count_some (back_answer (terms_transitions (terms_of self.now)) terms_independence x.now z.now (length out.old)) }
+        ensures buffer { out.new ≡ buffer_after_some (back_answer (terms_transitions (terms_of self.now)) terms_independence x.now z.now (length out.old)) out.old }
+        ensures rules { WrittenIf (StepSought x.now z.now (λ y. Leaves y x.now z.now) (length out.old)) result out.old out.new }
+    {
         check_step(x)?;
         check_step(z)?;
         let mut step = Sink::new();
