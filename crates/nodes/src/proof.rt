@@ -13,7 +13,7 @@ ghost use Rattle.nodes.specs.Shapes.{proof_shape, on_first};
 use crate::scan::{Grammar, Size, Wanted, fault, split};
 use actions::action::{is_action, is_name};
 use ccs::due::Due;
-use ccs::node_bytes::{ACT, LEFT, RIGHT, BOTH, CHOOSE_LEFT, CHOOSE_RIGHT, UNDER};
+use ccs::node_bytes::{ACT, BOTH, CHOOSE_LEFT, CHOOSE_RIGHT, LEFT, RIGHT, UNDER};
 
 // A node of a proof, with its parts as they stand in the string.
 #[derive(Clone, Copy)]

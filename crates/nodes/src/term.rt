@@ -13,7 +13,7 @@ ghost use Rattle.nodes.specs.Shapes.{term_shape, on_first};
 use crate::scan::{Grammar, Size, Wanted, fault, split};
 use actions::action::{is_action, is_name};
 use ccs::due::Due;
-use ccs::node_bytes::{NIL, PREFIX, PARALLEL, SUM, RESTRICTION, CALL};
+use ccs::node_bytes::{CALL, NIL, PARALLEL, PREFIX, RESTRICTION, SUM};
 
 // A node of a term, with its parts as they stand in the string.
 #[derive(Clone, Copy)]
@@ -73,9 +73,7 @@ impl Terms {
     #[tactic(auto, unfolding(ccs::specs::Reading::term_byte))]
     fn node_byte(&self, rest: usize, byte: u8) -> Option<Wanted>
         requires { rest < 2 ^ 63 }
-        ensures next {
-            result ≡ fits_of (term_byte self.now.definitions) (record { due = Node; count = suc rest }) byte
-        }
+        ensures next { result ≡ fits_of (term_byte self.now.definitions) (record { due = Node; count = suc rest }) byte }
         ensures few { at_most_one_more result (suc rest) }
     {
         match byte {
@@ -131,9 +129,7 @@ impl Term<'_> {
     // Its parts are terms over them, so nothing is read again.
     pub fn of(definitions: u8, bytes: &[u8]) -> Term<'_>
         requires { IsTrue (is_ok (read_term definitions bytes.now)) }
-        ensures node {
-            TermNode definitions (Some (node_of_term result)) (read_term definitions bytes.now)
-        }
+        ensures node { TermNode definitions (Some (node_of_term result)) (read_term definitions bytes.now) }
         ensures parts { TermsRead definitions (node_of_term result) }
     {
         let terms = Terms { definitions };

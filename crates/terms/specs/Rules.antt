@@ -93,3 +93,7 @@ Written Rules result old new = (r : Result Str MaskFault) × Rules r × (result 
 
 abbrev pub WrittenIf : (Result (Option Str) MaskFault → Type 0) → Result (Option ℕ) MaskFault → Str → Str → Type 0
 WrittenIf Rules result old new = (r : Result (Option Str) MaskFault) × Rules r × (result ≡ count_some r) × (new ≡ buffer_after_some r old)
+
+-- what is answered where the state after a by x is asked for, as it stands in the buffer afterwards
+abbrev pub NextWritten : Terms → Str → Str → Result ℕ MaskFault → Str → Str → Type 0
+NextWritten t a x result old new = Written (NextRules (terms_of t) a x (length old)) result old new

@@ -7,7 +7,7 @@ ghost use Rattle.ccs.specs.System.{terms_transitions, terms_independence};
 ghost use Rattle.ccs.proofs.System.{terms_laws};
 ghost use Rattle.terms.specs.Contents.{terms_of};
 ghost use Rattle.terms.specs.Sound.{terms_sound};
-ghost use Rattle.terms.specs.Rules.{StateRules, StepRules, LabelRules, NextRules, StepSought, IndependentRules, Written, WrittenIf};
+ghost use Rattle.terms.specs.Rules.{StateRules, StepRules, LabelRules, NextWritten, StepSought, IndependentRules, WrittenIf};
 ghost use Rattle.terms.specs.Answers.{step_checked, state_put};
 
 use crate::place::past;
@@ -18,6 +18,7 @@ use residuals::label::label;
 use residuals::origin::origin;
 use residuals::residual::residual;
 use residuals::sink::Sink;
+use steps::STEP_LIMIT;
 use steps::answer::put_step_if;
 use steps::fault::{MaskFault, SystemFault};
 use steps::label::Label;
@@ -27,7 +28,7 @@ use steps::system::StepSystem;
 fn check_step(step: &[u8]) -> Result<(), SystemFault>
     ensures { result ≡ step_checked step.now }
 {
-    if let Some(place) = past(64, step, Proof::fault(step)) {
+    if let Some(place) = past(STEP_LIMIT, step, Proof::fault(step)) {
         return Err(SystemFault::NoStep(place));
     }
     match improper(step) {
@@ -37,7 +38,7 @@ fn check_step(step: &[u8]) -> Result<(), SystemFault>
     }
 }
 
-// Writes a state over the front of the buffer and answers its length, or refuses one that is too long.
+// Writes a state over the front of the buffer and answers its length; refuses one that is too long.
 fn put_state(state: &Sink, out: &mut [u8]) -> Result<usize, MaskFault>
     ensures answer { result ≡ count (state_put state.now (length out.old)) }
     ensures buffer { out.new ≡ buffer_after (state_put state.now (length out.old)) out.old }
@@ -80,9 +81,11 @@ impl StepSystem for Terms {
     }
 
     fn next(&self, state: &[u8], step: &[u8], out: &mut [u8]) -> Result<usize, MaskFault>
-        ensures answer { result ≡ count (next_answer (terms_transitions (terms_of self.now)) state.now step.now (length out.old)) }
-        ensures buffer { out.new ≡ buffer_after (next_answer (terms_transitions (terms_of self.now)) state.now step.now (length out.old)) out.old }
-        ensures rules { Written (NextRules (terms_of self.now) state.now step.now (length out.old)) result out.old out.new }
+        ensures answer { result ≡
+            count (next_answer (terms_transitions (terms_of self.now)) state.now step.now (length out.old)) }
+        ensures buffer { out.new ≡
+            buffer_after (next_answer (terms_transitions (terms_of self.now)) state.now step.now (length out.old)) out.old }
+        ensures rules { NextWritten self.now state.now step.now result out.old out.new }
     {
         check_step(step)?;
         self.check_state(state)?;
@@ -95,7 +98,8 @@ impl StepSystem for Terms {
     }
 
     fn independent(&self, x: &[u8], y: &[u8]) -> Result<bool, MaskFault>
-        ensures answer { result ≡ independent_answer (terms_transitions (terms_of self.now)) terms_independence x.now y.now }
+        ensures answer { result ≡
+            independent_answer (terms_transitions (terms_of self.now)) terms_independence x.now y.now }
         ensures rules { IndependentRules x.now y.now result }
     {
         check_step(x)?;
@@ -104,8 +108,10 @@ impl StepSystem for Terms {
     }
 
     fn residual(&self, x: &[u8], y: &[u8], out: &mut [u8]) -> Result<Option<usize>, MaskFault>
-        ensures answer { result ≡ count_some (left_answer (terms_transitions (terms_of self.now)) terms_independence x.now y.now (length out.old)) }
-        ensures buffer { out.new ≡ buffer_after_some (left_answer (terms_transitions (terms_of self.now)) terms_independence x.now y.now (length out.old)) out.old }
+        ensures answer { result ≡
+            count_some (left_answer (terms_transitions (terms_of self.now)) terms_independence x.now y.now (length out.old)) }
+        ensures buffer { out.new ≡
+            buffer_after_some (left_answer (terms_transitions (terms_of self.now)) terms_independence x.now y.now (length out.old)) out.old }
         ensures rules { WrittenIf (StepSought x.now y.now (Leaves x.now y.now) (length out.old)) result out.old out.new }
     {
         check_step(x)?;
@@ -116,8 +122,10 @@ impl StepSystem for Terms {
     }
 
     fn back(&self, x: &[u8], z: &[u8], out: &mut [u8]) -> Result<Option<usize>, MaskFault>
-        ensures answer { result ≡ count_some (back_answer (terms_transitions (terms_of self.now)) terms_independence x.now z.now (length out.old)) }
-        ensures buffer { out.new ≡ buffer_after_some (back_answer (terms_transitions (terms_of self.now)) terms_independence x.now z.now (length out.old)) out.old }
+        ensures answer { result ≡
+            count_some (back_answer (terms_transitions (terms_of self.now)) terms_independence x.now z.now (length out.old)) }
+        ensures buffer { out.new ≡
+            buffer_after_some (back_answer (terms_transitions (terms_of self.now)) terms_independence x.now z.now (length out.old)) out.old }
         ensures rules { WrittenIf (StepSought x.now z.now (λ y. Leaves y x.now z.now) (length out.old)) result out.old out.new }
     {
         check_step(x)?;

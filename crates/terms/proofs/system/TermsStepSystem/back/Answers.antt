@@ -11,22 +11,22 @@ use Rattle.terms.proofs.system.TermsStepSystem.back.Goals as goal
 pub returns-clause-answer : goal.returns-clause-answer
 returns-clause-answer c =
     let told =
-        back_told_is (terms_of c.args.self.now) c.args.x.now c.args.z.now (length c.args.out.now) c.origin.result c.origin.new.sink c.new-step.result c.is_some-answered.result c.text.result.now
-        c.in_ok-check_step.ensures c.in_ok-check_step-2.ensures c.new-step.ensures c.origin.ensures c.is_some-answered.ensures c.text.ensures in
+    back_told_is (terms_of c.args.self.now) c.args.x.now c.args.z.now (length c.args.out.now) c.origin.result c.origin.new.sink c.new-step.result c.is_some-answered.result c.text.result.now
+    c.in_ok-check_step.ensures c.in_ok-check_step-2.ensures c.new-step.ensures c.origin.ensures c.is_some-answered.ensures c.text.ensures in
     c.put_step_if.ensures.answer ∙ ap count_some told
 
 pub returns-clause-buffer : goal.returns-clause-buffer
 returns-clause-buffer c =
     let told =
-        back_told_is (terms_of c.args.self.now) c.args.x.now c.args.z.now (length c.args.out.now) c.origin.result c.origin.new.sink c.new-step.result c.is_some-answered.result c.text.result.now
-        c.in_ok-check_step.ensures c.in_ok-check_step-2.ensures c.new-step.ensures c.origin.ensures c.is_some-answered.ensures c.text.ensures in
+    back_told_is (terms_of c.args.self.now) c.args.x.now c.args.z.now (length c.args.out.now) c.origin.result c.origin.new.sink c.new-step.result c.is_some-answered.result c.text.result.now
+    c.in_ok-check_step.ensures c.in_ok-check_step-2.ensures c.new-step.ensures c.origin.ensures c.is_some-answered.ensures c.text.ensures in
     c.put_step_if.ensures.buffer ∙ ap (λ r. buffer_after_some r c.args.out.now) told
 
 pub returns-clause-rules : goal.returns-clause-rules
 returns-clause-rules c =
     let told =
-        back_told_is (terms_of c.args.self.now) c.args.x.now c.args.z.now (length c.args.out.now) c.origin.result c.origin.new.sink c.new-step.result c.is_some-answered.result c.text.result.now
-        c.in_ok-check_step.ensures c.in_ok-check_step-2.ensures c.new-step.ensures c.origin.ensures c.is_some-answered.ensures c.text.ensures in
+    back_told_is (terms_of c.args.self.now) c.args.x.now c.args.z.now (length c.args.out.now) c.origin.result c.origin.new.sink c.new-step.result c.is_some-answered.result c.text.result.now
+    c.in_ok-check_step.ensures c.in_ok-check_step-2.ensures c.new-step.ensures c.origin.ensures c.is_some-answered.ensures c.text.ensures in
     (_, back_rules c.args.self.now c.args.x.now c.args.z.now (length c.args.out.now), c.put_step_if.ensures.answer ∙ ap count_some told, c.put_step_if.ensures.buffer ∙ ap (λ r. buffer_after_some r c.args.out.now) told)
 
 pub returns-in_err-check_step-clause-rules : goal.returns-in_err-check_step-clause-rules

@@ -11,22 +11,22 @@ use Rattle.terms.proofs.system.TermsStepSystem.residual.Goals as goal
 pub returns-clause-answer : goal.returns-clause-answer
 returns-clause-answer c =
     let told =
-        left_told_is (terms_of c.args.self.now) c.args.x.now c.args.y.now (length c.args.out.now) c.residual.result c.residual.new.sink c.new-left.result c.is_some-answered.result c.text.result.now
-        c.in_ok-check_step.ensures c.in_ok-check_step-2.ensures c.new-left.ensures c.residual.ensures c.is_some-answered.ensures c.text.ensures in
+    left_told_is (terms_of c.args.self.now) c.args.x.now c.args.y.now (length c.args.out.now) c.residual.result c.residual.new.sink c.new-left.result c.is_some-answered.result c.text.result.now
+    c.in_ok-check_step.ensures c.in_ok-check_step-2.ensures c.new-left.ensures c.residual.ensures c.is_some-answered.ensures c.text.ensures in
     c.put_step_if.ensures.answer ∙ ap count_some told
 
 pub returns-clause-buffer : goal.returns-clause-buffer
 returns-clause-buffer c =
     let told =
-        left_told_is (terms_of c.args.self.now) c.args.x.now c.args.y.now (length c.args.out.now) c.residual.result c.residual.new.sink c.new-left.result c.is_some-answered.result c.text.result.now
-        c.in_ok-check_step.ensures c.in_ok-check_step-2.ensures c.new-left.ensures c.residual.ensures c.is_some-answered.ensures c.text.ensures in
+    left_told_is (terms_of c.args.self.now) c.args.x.now c.args.y.now (length c.args.out.now) c.residual.result c.residual.new.sink c.new-left.result c.is_some-answered.result c.text.result.now
+    c.in_ok-check_step.ensures c.in_ok-check_step-2.ensures c.new-left.ensures c.residual.ensures c.is_some-answered.ensures c.text.ensures in
     c.put_step_if.ensures.buffer ∙ ap (λ r. buffer_after_some r c.args.out.now) told
 
 pub returns-clause-rules : goal.returns-clause-rules
 returns-clause-rules c =
     let told =
-        left_told_is (terms_of c.args.self.now) c.args.x.now c.args.y.now (length c.args.out.now) c.residual.result c.residual.new.sink c.new-left.result c.is_some-answered.result c.text.result.now
-        c.in_ok-check_step.ensures c.in_ok-check_step-2.ensures c.new-left.ensures c.residual.ensures c.is_some-answered.ensures c.text.ensures in
+    left_told_is (terms_of c.args.self.now) c.args.x.now c.args.y.now (length c.args.out.now) c.residual.result c.residual.new.sink c.new-left.result c.is_some-answered.result c.text.result.now
+    c.in_ok-check_step.ensures c.in_ok-check_step-2.ensures c.new-left.ensures c.residual.ensures c.is_some-answered.ensures c.text.ensures in
     (_, residual_rules c.args.self.now c.args.x.now c.args.y.now (length c.args.out.now), c.put_step_if.ensures.answer ∙ ap count_some told, c.put_step_if.ensures.buffer ∙ ap (λ r. buffer_after_some r c.args.out.now) told)
 
 pub returns-in_err-check_step-clause-rules : goal.returns-in_err-check_step-clause-rules
