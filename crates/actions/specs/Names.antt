@@ -1,4 +1,4 @@
--- Which names a list takes, and which actions it hides. Assumes nothing.
+-- Which names a list takes, and which actions it hides.
 use Rattle.std.specs.Prelude.{◌≡◌, ℕ, ◌+◌, Bool, true, ◌&&◌, ◌⊎◌, ◌↔◌, List, [], ◌∷◌, ◌++◌, length, Some, None, Ok, Err, Option, Result, nat_lt, nat_eq, IsTrue, if◌then◌else◌}
 use Rattle.std.specs.List.{list_any, Contains}
 use Rattle.actions.specs.declared.names.TheConstants.{NAME_LIMIT}

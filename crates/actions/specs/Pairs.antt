@@ -1,4 +1,4 @@
--- Which pairs of names a list takes, and what they make of an action. Assumes nothing.
+-- Which pairs of names a list takes, and what they make of an action.
 use Rattle.std.specs.Prelude.{◌≡◌, ◌≢◌, ℕ, ◌+◌, Bool, true, not, ◌&&◌, List, [], ◌∷◌, ◌++◌, length, is_some, Some, None, Ok, Err, Option, Result, nat_lt, nat_le, nat_eq, IsTrue, if◌then◌else◌}
 use Rattle.std.specs.List.{Contains}
 use Rattle.actions.specs.declared.pairs.TheConstants.{PAIR_LIMIT}

@@ -1,4 +1,4 @@
--- Items over blank places, and one more behind them. Assumes nothing.
+-- Items over blank places, and one more behind them.
 use Rattle.std.proofs.Common.{◌≡◌, ℕ, ◌+◌, ◌-◌, ◌<◌, ◌≤◌, min, List, [], ◌∷◌, ◌++◌, length, take, drop, replicate, slice_set, refl, ap, sym, ◌∙◌, arith, length-append, length-drop}
 use borrow.Rule.Slice.PartMut.{put_mid}
 use lib.ListN.{length-replicate}
@@ -34,7 +34,9 @@ pub pushed : {A : Type 0} (n : ℕ) (items : List A) (item : A) → length items
     → take n (items ++ item ∷ []) ≡ items ++ item ∷ []
 pushed n items item room = take_all n (items ++ item ∷ []) (omega (arith, length-append items (item ∷ []), room))
 
--- items written behind those of a list
+-- Items written behind those of a list, as many as have room. Of the places behind the old items, which are
+-- blank, the first are written and the others left, so the rest behind the new items is blank too; the length
+-- is put together from that front and that rest.
 pub holds_written : {A : Type 0} (places items written : List A) (n len more : ℕ) (blank : A)
     → len ≤ n → length places ≡ n → drop len places ≡ replicate (n - len) blank → more ≡ min (length items) (n - len)
     → written ≡ take more items
@@ -60,7 +62,8 @@ holds_written {A} places items written n len more blank few long clear count wro
       rest,
     )
 
--- they are as many of the given items as have room
+-- What the list holds then is the old items and the new ones, cut off at n: both sides have the old items
+-- in front, and behind them as many of the given items as n leaves.
 pub appended : {A : Type 0} (places items written : List A) (n len more : ℕ)
     → len ≤ n → length places ≡ n → more ≡ min (length items) (n - len) → written ≡ take more items
     → take (len + more) (put_mid len (len + more - len) places written) ≡ take n (take len places ++ items)

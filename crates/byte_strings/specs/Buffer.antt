@@ -1,5 +1,5 @@
 -- What is answered where a string is asked for in a lent buffer, and every byte of the buffer
--- afterwards. Assumes nothing.
+-- afterwards.
 use Rattle.std.specs.Prelude.{ℕ, List, ◌++◌, length, drop, Some, None, Ok, Err, Option, Result, nat_le, if◌then◌else◌}
 
 -- a string of bytes

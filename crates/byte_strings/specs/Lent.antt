@@ -1,4 +1,4 @@
--- Strings that are lent, as the strings that they are. Assumes nothing.
+-- Strings that are lent, as the strings that they are.
 use Rattle.std.specs.Prelude.{Some, None, Option}
 use Rattle.std.specs.Borrow.{Bor}
 use Rattle.byte_strings.specs.Buffer.{Str}

@@ -1,4 +1,6 @@
 -- What independence and what is left keep, for proofs as trees.
+-- All by induction on how the proofs are independent. Where they go to two sides, each stays as it is; where they share
+-- a node, the law of what stands under it goes under the node; and where both go to both sides, so it does on each.
 use Rattle.std.proofs.Common.{◌≡◌, ℕ, sym, refl, ap, ap₂, ◌∙◌}
 use Rattle.ccs.specs.Syntax.{Term, Proof}
 use Rattle.ccs.specs.Syntax.Proof.{on_left, on_right, both, choose_left, choose_right, under}

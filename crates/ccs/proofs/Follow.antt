@@ -33,10 +33,10 @@ left_is_sum left_branch = (_, _, refl)
 right_is_sum : {p : Term} {t : Proof} → Suits p (choose_right t) → (q r : Term) × (p ≡ sum q r)
 right_is_sum right_branch = (_, _, refl)
 
--- what each answer says
-abbrev pub Followed : (ℕ → Term) → Term → Proof → Result Term ℕ → Type 0
-Followed body p t (Ok q) = Moves body p t q
-Followed body p t (Err k) = First (MisfitAt body p t) k
+-- what each answer means
+abbrev pub Means : (ℕ → Term) → Term → Proof → Result Term ℕ → Type 0
+Means body p t (Ok q) = Moves body p t q
+Means body p t (Err k) = First (MisfitAt body p t) k
 
 module _ {body : ℕ → Term} where
   -- a proof leads to one term, and where it leads to one, every node fits
@@ -134,7 +134,7 @@ module _ {body : ℕ → Term} where
       → ((p' : Term) → Moves body p t p' → Moves body q u (f p'))
       → ((k : ℕ) → MisfitAt body p t k → MisfitAt body q u (suc k))
       → ((j : ℕ) → MisfitAt body q u j → (k : ℕ) × (j ≡ 1 + k) × MisfitAt body p t k)
-      → (r : Result Term ℕ) → Followed body p t r → Followed body q u (around 1 f r)
+      → (r : Result Term ℕ) → Means body p t r → Means body q u (around 1 f r)
   around_part p t q u f go up down (Ok p') m = go p' m
   around_part p t q u f go up down (Err k) h = one_further (MisfitAt body p t) (MisfitAt body q u) up down (Some k) h
 
@@ -142,15 +142,15 @@ module _ {body : ℕ → Term} where
       → ((p' : Term) → Moves body p t p' → Moves body q u (f p'))
       → ((k : ℕ) → MisfitAt body p t k → MisfitAt body q u (suc (suc k)))
       → ((j : ℕ) → MisfitAt body q u j → (k : ℕ) × (j ≡ 2 + k) × MisfitAt body p t k)
-      → (r : Result Term ℕ) → Followed body p t r → Followed body q u (around 2 f r)
+      → (r : Result Term ℕ) → Means body p t r → Means body q u (around 2 f r)
   around_named p t q u f go up down (Ok p') m = go p' m
   around_named p t q u f go up down (Err k) h = two_further (MisfitAt body p t) (MisfitAt body q u) up down (Some k) h
 
 module _ (body : ℕ → Term) where
   -- each rule, around what its parts do
   both_go : (p q : Term) (t u : Proof) (r s : Result Term ℕ)
-      → Followed body p t r → Followed body q u s
-      → Followed body (par p q) (both t u) (both_sides_go (length (proof_bytes t)) r s)
+      → Means body p t r → Means body q u s
+      → Means body (par p q) (both t u) (both_sides_go (length (proof_bytes t)) r s)
   both_go p q t u (Ok p') (Ok q') m n = both_move m n
   both_go p q t u (Ok p') (Err k) m h =
       first_of_two (MisfitAt body p t) (MisfitAt body q u) (MisfitAt body (par p q) (both t u))
@@ -160,40 +160,40 @@ module _ (body : ℕ → Term) where
       first_in_first (MisfitAt body p t) (MisfitAt body q u) (MisfitAt body (par p q) (both t u))
       (length (proof_bytes t)) (λ k i. within i) (λ k i. in_first i) from_both k h
 
-  left_goes : (p q : Term) (t : Proof) (r : Result Term ℕ) → Followed body p t r
-      → Followed body (par p q) (on_left t) (around 1 (λ p'. par p' q) r)
+  left_goes : (p q : Term) (t : Proof) (r : Result Term ℕ) → Means body p t r
+      → Means body (par p q) (on_left t) (around 1 (λ p'. par p' q) r)
   left_goes p q t =
       around_part p t (par p q) (on_left t) (λ p'. par p' q) (λ p' m. left_moves m) (λ k i. on_the_left i) from_left
 
-  right_goes : (p q : Term) (t : Proof) (r : Result Term ℕ) → Followed body q t r
-      → Followed body (par p q) (on_right t) (around 1 (λ q'. par p q') r)
+  right_goes : (p q : Term) (t : Proof) (r : Result Term ℕ) → Means body q t r
+      → Means body (par p q) (on_right t) (around 1 (λ q'. par p q') r)
   right_goes p q t =
       around_part q t (par p q) (on_right t) (λ q'. par p q') (λ q' m. right_moves m) (λ k i. on_the_right i) from_right
 
-  left_is_chosen : (p q : Term) (t : Proof) (r : Result Term ℕ) → Followed body p t r
-      → Followed body (sum p q) (choose_left t) (around 1 (λ p'. p') r)
+  left_is_chosen : (p q : Term) (t : Proof) (r : Result Term ℕ) → Means body p t r
+      → Means body (sum p q) (choose_left t) (around 1 (λ p'. p') r)
   left_is_chosen p q t =
       around_part p t (sum p q) (choose_left t) (λ p'. p') (λ p' m. left_chosen m)
       (λ k i. in_left_branch i) from_left_branch
 
-  right_is_chosen : (p q : Term) (t : Proof) (r : Result Term ℕ) → Followed body q t r
-      → Followed body (sum p q) (choose_right t) (around 1 (λ q'. q') r)
+  right_is_chosen : (p q : Term) (t : Proof) (r : Result Term ℕ) → Means body q t r
+      → Means body (sum p q) (choose_right t) (around 1 (λ q'. q') r)
   right_is_chosen p q t =
       around_part q t (sum p q) (choose_right t) (λ q'. q') (λ q' m. right_chosen m)
       (λ k i. in_right_branch i) from_right_branch
 
-  goes_under : (n m : ℕ) → n ≡ m → (p : Term) (t : Proof) (r : Result Term ℕ) → Followed body p t r
-      → Followed body (restrict n p) (under m t) (around 2 (restrict n) r)
+  goes_under : (n m : ℕ) → n ≡ m → (p : Term) (t : Proof) (r : Result Term ℕ) → Means body p t r
+      → Means body (restrict n p) (under m t) (around 2 (restrict n) r)
   goes_under n m e p t =
       around_named p t (restrict n p) (under m t) (restrict n) (λ p' g. moves_under e g)
       (λ k i. in_restriction e i) (from_restriction e)
 
   -- of a term that is no call, by the proof's first node
   by_prefix : (b : ℕ) (p : Term) → plain p ≡ true
-      → Followed body p (act b) (on_prefix p (λ a q. cond (nat_eq a b) (Ok q) (Err 0)))
+      → Means body p (act b) (on_prefix p (λ a q. cond (nat_eq a b) (Ok q) (Err 0)))
   by_prefix b nil e = at_once e (λ s. elim s [ ])
   by_prefix b (prefix a p) e =
-      cond_case (Followed body (prefix a p) (act b)) (nat_eq a b) _ _
+      cond_case (Means body (prefix a p) (act b)) (nat_eq a b) _ _
       (λ f. acts (eqb-true a b f)) (λ f. at_once e (λ s. differ s f))
     where
       differ : Suits (prefix a p) (act b) → nat_eq a b ≡ false → ⊥
@@ -204,9 +204,9 @@ module _ (body : ℕ → Term) where
   by_prefix b (call d) e = absurd (cc e)
 
   by_par : (t : Proof) (f : Term → Term → Result Term ℕ)
-      → ((p q : Term) → Followed body (par p q) t (f p q))
+      → ((p q : Term) → Means body (par p q) t (f p q))
       → ((p : Term) → Suits p t → (q r : Term) × (p ≡ par q r))
-      → (p : Term) → plain p ≡ true → Followed body p t (on_par p f)
+      → (p : Term) → plain p ≡ true → Means body p t (on_par p f)
   by_par t f h n nil e = at_once e (λ s. cc (n nil s).2)
   by_par t f h n (prefix a p) e = at_once e (λ s. cc (n (prefix a p) s).2)
   by_par t f h n (par p q) e = h p q
@@ -215,9 +215,9 @@ module _ (body : ℕ → Term) where
   by_par t f h n (call d) e = absurd (cc e)
 
   by_sum : (t : Proof) (f : Term → Term → Result Term ℕ)
-      → ((p q : Term) → Followed body (sum p q) t (f p q))
+      → ((p q : Term) → Means body (sum p q) t (f p q))
       → ((p : Term) → Suits p t → (q r : Term) × (p ≡ sum q r))
-      → (p : Term) → plain p ≡ true → Followed body p t (on_sum p f)
+      → (p : Term) → plain p ≡ true → Means body p t (on_sum p f)
   by_sum t f h n nil e = at_once e (λ s. cc (n nil s).2)
   by_sum t f h n (prefix a p) e = at_once e (λ s. cc (n (prefix a p) s).2)
   by_sum t f h n (par p q) e = at_once e (λ s. cc (n (par p q) s).2)
@@ -225,16 +225,16 @@ module _ (body : ℕ → Term) where
   by_sum t f h n (restrict m p) e = at_once e (λ s. cc (n (restrict m p) s).2)
   by_sum t f h n (call d) e = absurd (cc e)
 
-  by_restrict : (m : ℕ) (t : Proof) → ((p : Term) → Followed body p t (follow body p t))
+  by_restrict : (m : ℕ) (t : Proof) → ((p : Term) → Means body p t (follow body p t))
       → (p : Term) → plain p ≡ true
-      → Followed body p (under m t)
+      → Means body p (under m t)
       (on_restrict p (λ n q. cond (nat_eq n m) (around 2 (restrict n) (follow body q t)) (Err 0)))
   by_restrict m t h nil e = at_once e (λ s. elim s [ ])
   by_restrict m t h (prefix a p) e = at_once e (λ s. elim s [ ])
   by_restrict m t h (par p q) e = at_once e (λ s. elim s [ ])
   by_restrict m t h (sum p q) e = at_once e (λ s. elim s [ ])
   by_restrict m t h (restrict n p) e =
-      cond_case (Followed body (restrict n p) (under m t)) (nat_eq n m) _ _
+      cond_case (Means body (restrict n p) (under m t)) (nat_eq n m) _ _
       (λ f. goes_under n m (eqb-true n m f) p t (follow body p t) (h p)) (λ f. at_once e (λ s. differ s f))
     where
       differ : Suits (restrict n p) (under m t) → nat_eq n m ≡ false → ⊥
@@ -242,8 +242,8 @@ module _ (body : ℕ → Term) where
   by_restrict m t h (call d) e = absurd (cc e)
 
   -- what follows a call follows the body
-  through_call : (p : Term) (t : Proof) (r : Result Term ℕ) → Followed body (unfold_call body p) t r
-      → Followed body p t r
+  through_call : (p : Term) (t : Proof) (r : Result Term ℕ) → Means body (unfold_call body p) t r
+      → Means body p t r
   through_call nil t r h = h
   through_call (prefix a p) t r h = h
   through_call (par p q) t r h = h
@@ -266,18 +266,18 @@ module _ (body : ℕ → Term) where
     unfolded_plain (call d) = bodies d
 
     on_sides : (t : Proof) (f : Term → Term → Result Term ℕ)
-        → ((p q : Term) → Followed body (par p q) t (f p q))
+        → ((p q : Term) → Means body (par p q) t (f p q))
         → ((p : Term) → Suits p t → (q r : Term) × (p ≡ par q r))
-        → (p : Term) → Followed body p t (on_par (unfold_call body p) f)
+        → (p : Term) → Means body p t (on_par (unfold_call body p) f)
     on_sides t f h n p = through_call p t _ (by_par t f h n (unfold_call body p) (unfolded_plain p))
 
     on_branches : (t : Proof) (f : Term → Term → Result Term ℕ)
-        → ((p q : Term) → Followed body (sum p q) t (f p q))
+        → ((p q : Term) → Means body (sum p q) t (f p q))
         → ((p : Term) → Suits p t → (q r : Term) × (p ≡ sum q r))
-        → (p : Term) → Followed body p t (on_sum (unfold_call body p) f)
+        → (p : Term) → Means body p t (on_sum (unfold_call body p) f)
     on_branches t f h n p = through_call p t _ (by_sum t f h n (unfold_call body p) (unfolded_plain p))
 
-    pub follow_means : (t : Proof) (p : Term) → Followed body p t (follow body p t)
+    pub follow_means : (t : Proof) (p : Term) → Means body p t (follow body p t)
     unfolding follow
     follow_means (act b) p = through_call p (act b) _ (by_prefix b (unfold_call body p) (unfolded_plain p))
     follow_means (on_left t) p =
@@ -298,11 +298,11 @@ module _ (body : ℕ → Term) where
         through_call p (under m t) _ (by_restrict m t (follow_means t) (unfold_call body p) (unfolded_plain p))
 
     pub follow_moves : (p : Term) (t : Proof) (q : Term) → follow body p t ≡ Ok q → Moves body p t q
-    follow_moves p t q e = subst (Followed body p t) e (follow_means t p)
+    follow_moves p t q e = subst (Means body p t) e (follow_means t p)
 
     pub moves_follow : (p : Term) (t : Proof) (q : Term) → Moves body p t q → follow body p t ≡ Ok q
     moves_follow p t q m = go (follow body p t) (follow_means t p)
       where
-        go : (r : Result Term ℕ) → Followed body p t r → r ≡ Ok q
+        go : (r : Result Term ℕ) → Means body p t r → r ≡ Ok q
         go (Ok r) n = ap Ok (one_end n m)
         go (Err k) h = absurd (all_fit h.holds m)

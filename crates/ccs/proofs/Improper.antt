@@ -1,4 +1,6 @@
 -- The place of the first improper node.
+-- By induction on the proof: the node itself is improper, and nothing goes before it; or it is not, and the first is
+-- that of its parts, so many bytes further on.
 use Rattle.std.proofs.Common.{◌≡◌, ℕ, suc, ◌+◌, ◌<◌, Bool, true, false, ◌&&◌, not, length, Some, None, Option, nat_eq, sym, refl, ap, ◌∙◌, subst, inl, inr, ◌⊎◌, length-append, arith}
 use Rattle.ccs.specs.Syntax.{Proof}
 use Rattle.ccs.specs.Syntax.Proof.{act, on_left, on_right, both, choose_left, choose_right, under}

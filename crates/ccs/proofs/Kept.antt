@@ -1,4 +1,5 @@
 -- What is left of a proof keeps its label, is as proper and as sound, and is no longer.
+-- By induction on how the proofs are independent: only nodes of choices go, and they do none of this.
 use Rattle.std.proofs.Common.{◌≡◌, ◌≤◌, length, refl, length-append, arith}
 use Rattle.ccs.specs.Syntax.{Proof}
 use Rattle.ccs.specs.Label.{label, proper}

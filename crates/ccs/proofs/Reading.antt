@@ -1,4 +1,7 @@
 -- What reading bytes answers, for terms and for proofs alike.
+-- All by induction on the string: an answer of the string behind a byte becomes one of the string with the byte, moved
+-- on by one. The place told is the first byte that fits none, so no string goes on there (`stops`), and one does before
+-- (`begins`).
 use Rattle.std.proofs.Common.{◌≡◌, ℕ, suc, ◌≤◌, ◌<◌, Bool, true, false, cond, List, [], ◌∷◌, ◌++◌, length, take, Some, None, Ok, Err, Option, Result, refl, ap, ◌∙◌, arith}
 use Rattle.steps.specs.Meaning.{Str}
 use Rattle.ccs.specs.declared.due.Due.{Due}

@@ -1,4 +1,6 @@
 -- The residual and the origin are those of the rules.
+-- By induction on both proofs: an answer is put around the parts' answers by one rule, and where there is none, no rule
+-- has the two proofs in its conclusion, or its premise fails by induction.
 use Rattle.std.proofs.Common.{◌≡◌, ℕ, Some, None, Option, nat_eq, sym, ap, ◌∙◌, subst}
 use Rattle.std.proofs.lemmas.Bool.{eqb-true, eq-eqb}
 use Rattle.ccs.specs.Syntax.{Proof}

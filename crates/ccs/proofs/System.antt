@@ -30,7 +30,7 @@ use Rattle.ccs.proofs.Kept.{label_kept, proper_kept, sound_kept, length_kept}
 use Rattle.ccs.proofs.Improper.{none_is_proper, proper_is_none}
 use Rattle.ccs.proofs.First.{first_is_one}
 use Rattle.ccs.proofs.Limits.{no_place}
-use Rattle.ccs.proofs.Follow.{Followed, all_fit, follow_means, follow_moves, moves_follow}
+use Rattle.ccs.proofs.Follow.{Means, all_fit, follow_means, follow_moves, moves_follow}
 use Rattle.ccs.proofs.TermReading.{read_is_term, term_is_read}
 use Rattle.ccs.proofs.ProofReading.{read_is_proof, proof_is_read}
 
@@ -71,7 +71,7 @@ origin_is_read {t} {u} {t'} {u'} x r a =
     step_is_read t (sym (sound_kept a) ∙ s.sound) (sym (proper_kept a) ∙ s.is_proper)
 
 -- what is asked of two steps is asked of their proofs
-pub record Asked (f : Proof → Proof → Option Proof) (x y z : Str) : Type 0 where
+pub record OfProofs (f : Proof → Proof → Option Proof) (x y z : Str) : Type 0 where
   pub t : Proof
   pub u : Proof
   pub v : Proof
@@ -80,22 +80,22 @@ pub record Asked (f : Proof → Proof → Option Proof) (x y z : Str) : Type 0 w
   pub answer : f t u ≡ Some v
   pub bytes : proof_bytes v ≡ z
 
-asked : (f : Proof → Proof → Option Proof) (x y z : Str) → of_both f (read_step x) (read_step y) ≡ Some z
-    → Asked f x y z
-asked f x y z e = go (read_step x) (read_step y) refl refl e
+of_proofs : (f : Proof → Proof → Option Proof) (x y z : Str) → of_both f (read_step x) (read_step y) ≡ Some z
+    → OfProofs f x y z
+of_proofs f x y z e = go (read_step x) (read_step y) refl refl e
   where
     on : (t u : Proof) → read_step x ≡ Ok t → read_step y ≡ Ok u → (o : Option Proof) → f t u ≡ o
-        → spelled_proof o ≡ Some z → Asked f x y z
+        → spelled_proof o ≡ Some z → OfProofs f x y z
     on t u r s (Some v) g e = record { t = t; u = u; v = v; first = r; second = s; answer = g; bytes = cc e }
     on t u r s None g e = absurd (cc e)
 
-    go : (r s : Result Proof ℕ) → read_step x ≡ r → read_step y ≡ s → of_both f r s ≡ Some z → Asked f x y z
+    go : (r s : Result Proof ℕ) → read_step x ≡ r → read_step y ≡ s → of_both f r s ≡ Some z → OfProofs f x y z
     go (Ok t) (Ok u) r s e = on t u r s (f t u) refl e
     go (Ok t) (Err k) r s e = absurd (cc e)
     go (Err k) s' r s e = absurd (cc e)
 
 -- independent steps, by their proofs
-pub record Lefts (x y z : Str) : Type 0 where
+pub record LeftOf (x y z : Str) : Type 0 where
   pub t : Proof
   pub u : Proof
   pub t' : Proof
@@ -105,15 +105,15 @@ pub record Lefts (x y z : Str) : Type 0 where
   pub after : After t u t' u'
   pub bytes : proof_bytes t' ≡ z
 
-pub lefts : (x y z : Str) → terms_independence.left x y ≡ Some z → Lefts x y z
-lefts x y z e =
-    let h = asked residual x y z e in
+pub is_left : (x y z : Str) → terms_independence.left x y ≡ Some z → LeftOf x y z
+is_left x y z e =
+    let h = of_proofs residual x y z e in
     let a = is_residual h.t h.u h.v h.answer in
     record { t = h.t; u = h.u; t' = h.v; u' = a.0; first = h.first; second = h.second; after = a.1; bytes = h.bytes }
 
-pub lefts_of : (x y : Str) (t u t' u' : Proof) → read_step x ≡ Ok t → read_step y ≡ Ok u → After t u t' u'
+pub left_is : (x y : Str) (t u t' u' : Proof) → read_step x ≡ Ok t → read_step y ≡ Ok u → After t u t' u'
     → terms_independence.left x y ≡ Some (proof_bytes t')
-lefts_of x y t u t' u' r s a = rw (r, s, residual_is t u t' u' a) refl
+left_is x y t u t' u' r s a = rw (r, s, residual_is t u t' u' a) refl
 
 -- what a sound move leads to is sound
 pub moves_sound : (n : ℕ) {body : ℕ → Term} → ((d : ℕ) → sound_term n (body d) ≡ true) → {p q : Term} {t : Proof}
@@ -193,8 +193,8 @@ module _ (ds : List Term) (sound : sound_bodies (length ds) ds ≡ true) where
   diamond_kept a b c x y x' y' e f g h =
       let m = follows a x b e in
       let n = follows a y c f in
-      let l = lefts x y x' g in
-      let k = lefts y x y' h in
+      let l = is_left x y x' g in
+      let k = is_left y x y' h in
       let same_p : n.p ≡ m.p = cc (m.state, n.state) in
       let same_t : m.t ≡ l.t = cc (m.step, l.first) in
       let same_u : n.t ≡ l.u = cc (n.step, l.second) in
@@ -202,7 +202,7 @@ module _ (ds : List Term) (sound : sound_bodies (length ds) ds ≡ true) where
       let by_u : Moves (body_of ds) n.p l.u n.q = subst (λ t. Moves (body_of ds) n.p t n.q) same_u n.moves in
       let moves_y : Moves (body_of ds) m.p l.u n.q = subst (λ p. Moves (body_of ds) p l.u n.q) same_p by_u in
       let d = diamond l.after moves_x moves_y in
-      let y_after = lefts_of y x l.u l.t l.u' l.t' l.second l.first (after_sym l.after) in
+      let y_after = left_is y x l.u l.t l.u' l.t' l.second l.first (after_sym l.after) in
       let left_y : proof_bytes l.u' ≡ y' = cc (sym y_after ∙ h) in
       let after_x : read_step y' ≡ Ok l.u' = ap read_step (sym left_y) ∙ left_is_read y l.second (after_sym l.after) in
       let after_y : read_step x' ≡ Ok l.t' = ap read_step (sym l.bytes) ∙ left_is_read x l.first l.after in
@@ -218,7 +218,7 @@ module _ (ds : List Term) (sound : sound_bodies (length ds) ds ≡ true) where
   origin_possible a b c x y z e f g =
       let m = follows a x b e in
       let n = follows b z c f in
-      let l = lefts y x z g in
+      let l = is_left y x z g in
       let same_u : m.t ≡ l.u = cc (m.step, l.second) in
       let after_x : read_step z ≡ Ok l.t' = ap read_step (sym l.bytes) ∙ left_is_read y l.first l.after in
       let same_t : n.t ≡ l.t' = cc (n.step, after_x) in
@@ -233,37 +233,37 @@ module _ (ds : List Term) (sound : sound_bodies (length ds) ds ≡ true) where
 
 -- of the steps alone
 between_steps : (x y z : Str) → terms_independence.left x y ≡ Some z → is_ok (read_step x) ≡ true
-between_steps x y z e = ap is_ok (lefts x y z e).first
+between_steps x y z e = ap is_ok (is_left x y z e).first
 
 symmetric : (x y z : Str) → terms_independence.left x y ≡ Some z → (w : Str) × (terms_independence.left y x ≡ Some w)
 symmetric x y z e =
-    let l = lefts x y z e in
-    (proof_bytes l.u', lefts_of y x l.u l.t l.u' l.t' l.second l.first (after_sym l.after))
+    let l = is_left x y z e in
+    (proof_bytes l.u', left_is y x l.u l.t l.u' l.t' l.second l.first (after_sym l.after))
 
 irreflexive : (x : Str) → terms_independence.left x x ≡ None
 irreflexive x = go (terms_independence.left x x) refl
   where
     go : (o : Option Str) → terms_independence.left x x ≡ o → terms_independence.left x x ≡ None
     go None e = e
-    go (Some z) e = let l = lefts x x z e in absurd (not_of_itself l.after (cc (l.first, l.second)))
+    go (Some z) e = let l = is_left x x z e in absurd (not_of_itself l.after (cc (l.first, l.second)))
 
 left_step : (x y z : Str) → terms_independence.left x y ≡ Some z → is_ok (read_step z) ≡ true
-left_step x y z e = let l = lefts x y z e in ap is_ok (ap read_step (sym l.bytes) ∙ left_is_read x l.first l.after)
+left_step x y z e = let l = is_left x y z e in ap is_ok (ap read_step (sym l.bytes) ∙ left_is_read x l.first l.after)
 
 -- a step's label is its proof's
-shown : (x : Str) (t : Proof) → StepOf x t → label_of (read_proof x) ≡ record { action = label t }
-shown x t s = ap label_of (ap read_proof (sym s.bytes) ∙ proof_is_read t s.sound)
+label_is : (x : Str) (t : Proof) → StepOf x t → label_of (read_proof x) ≡ record { action = label t }
+label_is x t s = ap label_of (ap read_proof (sym s.bytes) ∙ proof_is_read t s.sound)
 
 left_label : (x y z : Str) → terms_independence.left x y ≡ Some z → label_of (read_proof z) ≡ label_of (read_proof x)
 left_label x y z e =
-    let l = lefts x y z e in
+    let l = is_left x y z e in
     let after = read_is_step z l.t' (ap read_step (sym l.bytes) ∙ left_is_read x l.first l.after) in
-    shown z l.t' after ∙ ap (λ a. record { action = a }) (label_kept l.after)
-    ∙ sym (shown x l.t (read_is_step x l.t l.first))
+    label_is z l.t' after ∙ ap (λ a. record { action = a }) (label_kept l.after)
+    ∙ sym (label_is x l.t (read_is_step x l.t l.first))
 
 left_length : (x y z : Str) → terms_independence.left x y ≡ Some z → length z ≤ length x
 left_length x y z e =
-    let l = lefts x y z e in
+    let l = is_left x y z e in
     omega (arith, length_kept l.after, ap length l.bytes, ap length (read_is_step x l.t l.first).bytes)
 
 origin_of : (x y z : Str) → (terms_independence.back x z ≡ Some y) ↔ (terms_independence.left y x ≡ Some z)
@@ -271,14 +271,14 @@ origin_of x y z = (there, back)
   where
     there : terms_independence.back x z ≡ Some y → terms_independence.left y x ≡ Some z
     there e =
-        let h = asked origin x z y e in
+        let h = of_proofs origin x z y e in
         let a = is_origin h.t h.u h.v h.answer in
         let read_y : read_step y ≡ Ok h.v = ap read_step (sym h.bytes) ∙ origin_is_read z h.second a.1 in
-        lefts_of y x h.v h.t h.u a.0 read_y h.first a.1 ∙ ap Some (read_is_step z h.u h.second).bytes
+        left_is y x h.v h.t h.u a.0 read_y h.first a.1 ∙ ap Some (read_is_step z h.u h.second).bytes
 
     back : terms_independence.left y x ≡ Some z → terms_independence.back x z ≡ Some y
     back e =
-        let l = lefts y x z e in
+        let l = is_left y x z e in
         let read_z : read_step z ≡ Ok l.t' = ap read_step (sym l.bytes) ∙ left_is_read y l.first l.after in
         rw (l.second, read_z, origin_is l.u l.t' l.t l.u' l.after) (ap Some (read_is_step y l.t l.first).bytes)
 
@@ -286,9 +286,9 @@ cube_kept : (x y w x' y' w' w'' : Str) → terms_independence.left y x ≡ Some 
     → terms_independence.left x y ≡ Some x' → terms_independence.left w y ≡ Some w''
     → (v : Str) × (terms_independence.left w' y' ≡ Some v) × (terms_independence.left w'' x' ≡ Some v)
 cube_kept x y w x' y' w' w'' e f g h =
-    let a = lefts x y x' g in
-    let b = lefts w x w' f in
-    let c = lefts w y w'' h in
+    let a = is_left x y x' g in
+    let b = is_left w x w' f in
+    let c = is_left w y w'' h in
     let same_x : b.u ≡ a.t = cc (b.second, a.first) in
     let same_y : c.u ≡ a.u = cc (c.second, a.second) in
     let same_w : c.t ≡ b.t = cc (c.first, b.first) in
@@ -297,23 +297,23 @@ cube_kept x y w x' y' w' w'' e f g h =
     let w_y : After b.t a.u c.t' c.u' = subst (λ t. After t a.u c.t' c.u') same_w after_y in
     let v = cube a.after (after_sym w_x) (after_sym w_y) in
     let read_x' : read_step x' ≡ Ok a.t' = ap read_step (sym a.bytes) ∙ left_is_read x a.first a.after in
-    let y_after = lefts_of y x a.u a.t a.u' a.t' a.second a.first (after_sym a.after) in
+    let y_after = left_is y x a.u a.t a.u' a.t' a.second a.first (after_sym a.after) in
     let bytes_y' : proof_bytes a.u' ≡ y' = cc (sym y_after ∙ e) in
     let read_y' : read_step y' ≡ Ok a.u' = ap read_step (sym bytes_y') ∙ left_is_read y a.second (after_sym a.after) in
     let read_w' : read_step w' ≡ Ok b.t' = ap read_step (sym b.bytes) ∙ left_is_read w b.first b.after in
     let read_w'' : read_step w'' ≡ Ok c.t' = ap read_step (sym c.bytes) ∙ left_is_read w c.first c.after in (
       proof_bytes v.0,
-      lefts_of w' y' b.t' a.u' v.0 v.1.0 read_w' read_y' v.1.1,
-      lefts_of w'' x' c.t' a.t' v.0 v.2.0 read_w'' read_x' v.2.1,
+      left_is w' y' b.t' a.u' v.0 v.1.0 read_w' read_y' v.1.1,
+      left_is w'' x' c.t' a.t' v.0 v.2.0 read_w'' read_x' v.2.1,
     )
 
 independent_before : (x y w y' w' v : Str) → terms_independence.left y x ≡ Some y'
     → terms_independence.left w x ≡ Some w' → terms_independence.left y' w' ≡ Some v
     → (u : Str) × (terms_independence.left y w ≡ Some u)
 independent_before x y w y' w' v e f g =
-    let a = lefts y x y' e in
-    let b = lefts w x w' f in
-    let c = lefts y' w' v g in
+    let a = is_left y x y' e in
+    let b = is_left w x w' f in
+    let c = is_left y' w' v g in
     let same_x : b.u ≡ a.u = cc (b.second, a.second) in
     let read_y' : read_step y' ≡ Ok a.t' = ap read_step (sym a.bytes) ∙ left_is_read y a.first a.after in
     let read_w' : read_step w' ≡ Ok b.t' = ap read_step (sym b.bytes) ∙ left_is_read w b.first b.after in
@@ -323,7 +323,7 @@ independent_before x y w y' w' v e f g =
     let after_w : After c.t b.t' c.t' c.u' = subst (λ u. After c.t u c.t' c.u') same_w c.after in
     let rests : After a.t' b.t' c.t' c.u' = subst (λ t. After t b.t' c.t' c.u') same_y after_w in
     let i = before a.after w_x rests in
-    (proof_bytes i.0, lefts_of y w a.t b.t i.0 i.1 a.first b.first i.2)
+    (proof_bytes i.0, left_is y w a.t b.t i.0 i.1 a.first b.first i.2)
 
 -- a string is refused exactly where it is none, or too long
 state_refusals : (n : ℕ) (s : Str)
@@ -436,24 +436,24 @@ module _ (ds : List Term) (sound : sound_bodies (length ds) ds ≡ true)
   next_is : (terms_transitions ds).next (term_bytes p) (proof_bytes t) ≡ spelled_term (follow (body_of ds) p t)
   next_is = rw (term_is_read (length ds) p sound_p, step_is_read t sound_t proper_t) refl
 
-  misfit_there : (k : ℕ) (r : Result Term ℕ) → Followed (body_of ds) p t r → spelled_term r ≡ Err k
+  misfit_there : (k : ℕ) (r : Result Term ℕ) → Means (body_of ds) p t r → spelled_term r ≡ Err k
       → First (MisfitAt (body_of ds) p t) k
   misfit_there k (Ok q) h e = absurd (cc e)
   misfit_there k (Err j) h e = let same : j ≡ k = cc e in subst (First (MisfitAt (body_of ds) p t)) same h
 
-  misfit_back : (k : ℕ) (r : Result Term ℕ) → Followed (body_of ds) p t r → First (MisfitAt (body_of ds) p t) k
+  misfit_back : (k : ℕ) (r : Result Term ℕ) → Means (body_of ds) p t r → First (MisfitAt (body_of ds) p t) k
       → spelled_term r ≡ Err k
   misfit_back k (Ok q) h f = absurd (all_fit f.holds h)
   misfit_back k (Err j) h f = ap Err (first_is_one (MisfitAt (body_of ds) p t) j k h f)
 
-  followed : Followed (body_of ds) p t (follow (body_of ds) p t)
-  followed = follow_means (body_of ds) (plain_bodies ds sound) t p
+  follow_here : Means (body_of ds) p t (follow (body_of ds) p t)
+  follow_here = follow_means (body_of ds) (plain_bodies ds sound) t p
 
   misfit_is : (k : ℕ) → ((terms_transitions ds).next (term_bytes p) (proof_bytes t) ≡ Err k)
       ↔ First (MisfitAt (body_of ds) p t) k
   misfit_is k = (
-    λ e. misfit_there k (follow (body_of ds) p t) followed (sym next_is ∙ e),
-    λ f. next_is ∙ misfit_back k (follow (body_of ds) p t) followed f,
+    λ e. misfit_there k (follow (body_of ds) p t) follow_here (sym next_is ∙ e),
+    λ f. next_is ∙ misfit_back k (follow (body_of ds) p t) follow_here f,
   )
 
 pub misfit_place : MisfitsTold
@@ -472,7 +472,7 @@ left_by_rules x y z = (there, back)
   where
     there : terms_independence.left x y ≡ Some z → Leaves x y z
     there e =
-        let l = lefts x y z e in
+        let l = is_left x y z e in
         let a = read_is_step x l.t l.first in
         let b = read_is_step y l.u l.second in
         record {
@@ -494,7 +494,7 @@ left_by_rules x y z = (there, back)
     back l =
         let first = ap read_step (sym l.first) ∙ step_is_read l.t l.first_sound l.first_proper in
         let second = ap read_step (sym l.second) ∙ step_is_read l.u l.second_sound l.second_proper in
-        lefts_of x y l.t l.u l.t' l.u' first second l.after ∙ ap Some l.rest
+        left_is x y l.t l.u l.t' l.u' first second l.after ∙ ap Some l.rest
 
 pub back_undoes_left : BackUndoesLeft
 back_undoes_left = origin_of

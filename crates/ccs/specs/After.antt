@@ -8,8 +8,7 @@ pub data After : (t u t' u' : Proof) → Type 0 where
   -- The two sides of a parallel term do not see each other.
   left_right : {t u : Proof} → After (on_left t) (on_right u) (on_left t) (on_right u)
   right_left : {t u : Proof} → After (on_right t) (on_left u) (on_right t) (on_left u)
-  -- One side alone, and both together: the part that has a partner becomes what is left of it, and
-  -- the other part stays.
+  -- One side alone, and both together: only the part on that side changes, to what is left of it.
   left_both : {t u v t' u' : Proof}
       → After t u t' u'
       → After (on_left t) (both u v) (on_left t') (both u' v)

@@ -12,7 +12,7 @@ in_both (Some t) (Some u) = Some (both t u)
 in_both (Some t) None = None
 in_both None o = None
 
--- what is left of the first after the second; none where they are dependent
+-- what is left of one proof after another; none where they are dependent
 unfoldable pub residual : Proof → Proof → Option Proof
 residual (on_left t) (on_right u) = Some (on_left t)
 residual (on_right t) (on_left u) = Some (on_right t)

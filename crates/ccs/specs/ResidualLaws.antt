@@ -8,7 +8,7 @@ use Rattle.ccs.specs.Spelling.{proof_bytes, sound_proof}
 use Rattle.ccs.specs.After.{After}
 use Rattle.ccs.specs.System.{sound_bodies, terms_transitions, terms_independence}
 
--- x and y spell independent proper proofs, and z what is left of the first after the second.
+-- x and y spell independent proper proofs, and z spells what is left of x after y.
 pub record Leaves (x y z : Str) : Type 0 where
   pub t : Proof
   pub u : Proof

@@ -1,6 +1,6 @@
-// Terms of CCS and the proofs of their steps: the bytes that spell them, the transition rules, which
-// steps are independent and what is left of each after the other; and that terms over some
-// definitions are a step system. Its functions have no code: each names what is proved of the
+// Terms of CCS and the proofs of their steps: the bytes that spell them, the transition rules,
+// independence of steps and their residuals; and that terms over some definitions are a step
+// system. Its functions have no code: each names what is proved of the
 // definitions. It rests on `byte_strings`, `actions` and `steps`.
 #![tactic(auto)]
 
@@ -15,8 +15,8 @@ ghost use Rattle.ccs.specs.ResidualLaws.{LeftByRules, BackUndoesLeft, Lawful};
 ///
 /// A string is read as the one term, or the one proof, that it spells. States are the terms over so
 /// many definitions, steps the proper proofs. Of a string that is no state within the limit, and of
-/// no other, the place is told where its longest beginning ends that begins a state; of one that is
-/// no step, likewise for proofs, or the place of a proof's first improper node.
+/// no other, the place is told where its longest beginning ends that begins a state. Of one that is
+/// no step, likewise: for proofs, or the place of a proof's first improper node.
 pub fn strings_are_read()
     ensures terms { ReadTerms }
     ensures proofs { ReadProofs }
@@ -37,10 +37,10 @@ pub fn terms_follow_rules()
     ensures labels { LabelsShown }
 {}
 
-/// Which steps are independent, and what is left of each after the other.
+/// Independence of steps, and residuals.
 ///
-/// Something is left of a step after another exactly where the rules say so. Back answers the step of
-/// which the other is what is left, where there is one.
+/// Something is left of a step after another exactly where the rules say so. Back answers the step
+/// of which the other is what is left, where there is one.
 pub fn residuals_follow_rules()
     ensures left { LeftByRules }
     ensures back { BackUndoesLeft }

@@ -1,5 +1,5 @@
-// The byte that each node of a term or of a proof begins with. An action, a name or a number follows
-// it where the node has one, and then the node's parts.
+// The byte that each node of a term or of a proof begins with. An action, a name or a number
+// follows it where the node has one, and then the node's parts.
 
 /// The term that does nothing: no bytes follow.
 pub const NIL: u8 = 0x00;

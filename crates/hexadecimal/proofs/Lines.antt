@@ -1,4 +1,4 @@
--- A line written in three pieces. Assumes nothing.
+-- A line written in three pieces.
 use Rattle.std.proofs.Common.{◌≡◌, ◌+◌, ◌-◌, ◌*◌, ◌<◌, ◌≤◌, [], ◌∷◌, ◌++◌, length, take, drop, set, Some, None, sym, ap, ◌∙◌, arith, length-append}
 use borrow.Rule.Slice.PartMut.{put_mid}
 use Rattle.byte_strings.specs.Buffer.{Str, over, copy_length, buffer_after_copy}
@@ -17,6 +17,9 @@ pub line_short : (f b o : Str) → length o < 2 * (length f + length b) + 1
     → (None ≡ copy_length (line (f ++ b)) (length o)) × (o ≡ buffer_after_copy (line (f ++ b)) o)
 line_short f b o h = copied_not (line (f ++ b)) o (rw (length_both f b) h)
 
+-- A line that has room is written whole. The digits of the front go over the buffer, those of the back over
+-- what is behind them, and the line end behind both: each time what was written so far stands over the front
+-- of the old buffer, and it grows by the piece.
 pub line_written : (f b o p q : Str) → 2 * (length f + length b) + 1 ≤ length o → p ≡ buffer_after_copy (hex f) o
     → q ≡ buffer_after_copy (hex b) (take (length p - 2 * length f) (drop (2 * length f) p))
     → (Some (2 * (length f + length b) + 1) ≡ copy_length (line (f ++ b)) (length o))

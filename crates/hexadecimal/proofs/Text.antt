@@ -108,6 +108,9 @@ spells_read s bs n e = cases (eqb (length s) (2 * length (take n (sound_bytes s)
         let got : sound_bytes s ≡ bs = sym all ∙ same in
         (subst (λ t. Spells s t) got (spelled s (len ∙ ap (λ t. 2 * length t) all)), subst (λ t. length t ≤ n) got fits)
 
+-- A line is read as bytes exactly where it spells them. Forward: the answer is Ok only where the sound bytes
+-- are half as many as the characters, so nothing is left over and nothing was cut off, and by induction on the
+-- line they spell it. Back: by induction on the spelling, all bytes are sound and each has two characters.
 pub reads_what_is_spelled : ReadsWhatIsSpelled
 reads_what_is_spelled s bs n = (spells_read s bs n, λ h. reads_spelled s bs n h.0 h.1)
 
@@ -127,6 +130,7 @@ pub spells_hex : (bs : List ℕ) → ((k : ℕ) → get_or bs k 0 < 256) → Spe
 spells_hex [] small = nothing
 spells_hex (b ∷ bs) small = byte (byte_of_digits b (small 0)) (spells_hex bs (λ k. small (suc k)))
 
+-- What is written spells the bytes, each digit having the value that it was made of, so it is read back.
 pub reads_back : (bs : List ℕ) → ((k : ℕ) → get_or bs k 0 < 256) → ReadsBack bs
 reads_back bs small n fits = reads_spelled (hex bs) bs n (spells_hex bs small) fits
 
@@ -140,5 +144,6 @@ sound_capital [] = refl
 sound_capital (a ∷ []) = refl
 sound_capital (a ∷ b ∷ s) = rw (value_of_capital a, value_of_capital b, sound_capital s) refl
 
+-- A letter and its capital have one value, so by induction on the line the sound bytes are the same.
 pub cases_read_alike : CasesReadAlike
 cases_read_alike line n = rw (sound_capital line, length-map line capital) refl

@@ -1,4 +1,4 @@
--- The hexadecimal digits, as ASCII codes. Assumes nothing.
+-- The hexadecimal digits, as ASCII codes.
 use Rattle.std.specs.Prelude.{ℕ, ◌+◌, ◌-◌, ◌*◌, Bool, ◌&&◌, Some, None, Option, nat_le, nat_lt, if◌then◌else◌}
 
 -- the capital digit of a value below 16

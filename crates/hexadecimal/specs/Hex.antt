@@ -1,4 +1,4 @@
--- Bytes as hexadecimal text, and the bytes that a line of text spells. Assumes nothing.
+-- Bytes as hexadecimal text, and the bytes that a line of text spells.
 use Rattle.std.specs.Prelude.{◌≡◌, ℕ, ◌*◌, ◌/◌, ◌%◌, ◌≤◌, ◌↔◌, List, [], ◌∷◌, map, length, take, Some, None, Ok, Err, Option, Result, ◌==◌, if◌then◌else◌}
 use Rattle.byte_strings.specs.Buffer.{copy_length, buffer_after_copy}
 use Rattle.hexadecimal.specs.Digits.{digit_of, byte_of, capital}

@@ -1,5 +1,7 @@
--- A net moves by the firing rule. A string is read as the marking that it spells, or the event that it names, so a move is
--- the firing of an event that was read, and what is left of a step is the step where the two events have no condition in
+-- A net moves by the firing rule. A string is read as the marking that it spells, or the event that it names, so a move
+-- is
+-- the firing of an event that was read, and what is left of a step is the step where the two events have no condition
+-- in
 -- common. The bits that the code computes follow the rules by the lemmas that its laws use.
 use Rattle.std.proofs.Common.{◌≡◌, ℕ, ◌<◌, ◌^◌, ◌↔◌, List, None, Some, Ok, Err, Option, Result, refl, sym, ap, ap₂, ◌∙◌, subst, ⊎_elim, arith, IsTrue, is_ok}
 use Rattle.std.proofs.lemmas.Bool.{cases_Bool}
@@ -34,7 +36,8 @@ pub net_labels : (es : List Event) → ShowsActions es
 net_labels es x e n = ap label_of (names_read es x e n)
 
 -- what follows by an event that was read, from a marking that was read
-next_as : (es : List Event) (a x : Str) (e : Event) (m : ℕ) → Names es x e → read_marking a ≡ Ok m → (net_transitions es).next a x ≡ spelled_state (fire e m)
+next_as : (es : List Event) (a x : Str) (e : Event) (m : ℕ) → Names es x e → read_marking a ≡ Ok m
+    → (net_transitions es).next a x ≡ spelled_state (fire e m)
 next_as es a x e m n r = ap₂ next_state (names_read es x e n) r
 
 module _ (es : List Event) (sound : IsTrue (all_sound es)) where
@@ -48,7 +51,8 @@ module _ (es : List Event) (sound : IsTrue (all_sound es)) where
       let start = read_spells a v.marking v.from in
       let good = sound_event_of x v.event v.by in
       let after = marking_after v.event v.marking in
-      let fires = (fires_rule v.event v.marking start.marking good.low good.high refl after).0 (fired_possible v.event v.marking t.ready) in
+      let fires = (fires_rule v.event v.marking start.marking good.low good.high refl after).0
+      (fired_possible v.event v.marking t.ready) in
       record {
         event = v.event;
         before = v.marking;
@@ -83,7 +87,8 @@ module _ (es : List Event) (sound : IsTrue (all_sound es)) where
       ))
       (λ not_ready.
       let none = read ∙ ap spelled_state (fired_impossible e m.0 not_ready) in (
-        λ h. let start : p ≡ 0 = cc in (start, record { state = state; step = step; nowhere = λ b g. err_ok (sym none ∙ moves a x b g) }),
+        λ h. let start : p ≡ 0 =
+            cc in (start, record { state = state; step = step; nowhere = λ b g. err_ok (sym none ∙ moves a x b g) }),
         λ h. none ∙ ap Err (sym h.0),
       ))
       (cases_Bool (is_ready e m.0))

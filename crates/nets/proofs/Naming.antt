@@ -1,9 +1,9 @@
 -- The strings that name an event of a net are those that are read as one.
-use Rattle.std.proofs.Common.{◌≡◌, List, [], ◌∷◌, None, Some, Ok, Err, Option, refl, ap, ◌∙◌}
+use Rattle.std.proofs.Common.{◌≡◌, ℕ, Result, List, [], ◌∷◌, None, Some, Ok, Err, Option, refl, ap, ◌∙◌}
 use Rattle.std.specs.List.{slice_get}
 use Rattle.steps.specs.Meaning.{Str}
 use Rattle.nets.specs.declared.event.Event.{Event}
-use Rattle.nets.specs.System.{lone_event, read_event}
+use Rattle.nets.specs.System.{lone_event, read_event, event_answer}
 use Rattle.nets.specs.Laws.Cases.{err_ok, ok_same}
 use Rattle.nets.specs.Rules.{Names}
 
@@ -18,3 +18,10 @@ read_names es (k ∷ x) e r = go (slice_get es k) x refl r
 
 pub names_read : (es : List Event) (x : Str) (e : Event) → Names es x e → read_event es x ≡ Ok e
 names_read es x e n = ap (read_event es) n.one_byte ∙ ap (λ (o : Option Event). lone_event o []) n.there
+
+pub answer_names : (es : List Event) (x : Str) (e : Event) → Ok e ≡ event_answer (read_event es x) → Names es x e
+answer_names es x e h = read_names es x e (go (read_event es x) h)
+  where
+    go : (q : Result Event ℕ) → Ok e ≡ event_answer q → q ≡ Ok e
+    go (Ok f) h = ap Ok (cc)
+    go (Err p) h = absurd (cc)

@@ -46,7 +46,8 @@ low_bit n =
     (omega arith) (omega arith) (omega arith) (omega arith) (omega arith) (omega arith) (omega arith) (omega arith)
 
 -- each byte of the number that eight bytes write is the one that was written
-written : (s : Str) → length s ≡ 8 → AreBytes s → (j : ℕ) → j < 8 → number_from_digits 256 s / 2 ^ (8 * j) % 256 ≡ slice_index s (7 - j)
+written : (s : Str) → length s ≡ 8 → AreBytes s → (j : ℕ) → j < 8
+    → number_from_digits 256 s / 2 ^ (8 * j) % 256 ≡ slice_index s (7 - j)
 written s e h =
     let n : ℕ = number_from_digits 256 s in
     let whole = spelled s e in
@@ -62,7 +63,8 @@ written s e h =
     (omega arith) (omega arith) (omega arith) (omega arith) (omega arith) (omega arith) (omega arith) (omega arith)
 
 -- bit c of that number is bit c % 8 of the byte at 7 - c / 8
-bit_written : (s : Str) → length s ≡ 8 → AreBytes s → (c : ℕ) → c < 64 → bit (number_from_digits 256 s) c ≡ bit (slice_index s (7 - c / 8)) (c % 8)
+bit_written : (s : Str) → length s ≡ 8 → AreBytes s → (c : ℕ) → c < 64
+    → bit (number_from_digits 256 s) c ≡ bit (slice_index s (7 - c / 8)) (c % 8)
 bit_written s e h c l =
     let n = number_from_digits 256 s in
     let split : 8 * (c / 8) + c % 8 ≡ c = omega arith in
@@ -88,7 +90,8 @@ read_spells s m r =
     let number = number_spelled s (eqb-true (length s) 8 parts.0) (bytes_of_test s parts.1) in
     let read = cond-true (eight_bytes s) (Ok (number_from_digits 256 s)) (Err (min (length s) 8)) h in
     subst (Spells s) (ok_same (sym read ∙ r)) number)
-    (λ h. absurd (err_ok (sym (cond-false (eight_bytes s) (Ok (number_from_digits 256 s)) (Err (min (length s) 8)) h) ∙ r)))
+    (λ h. absurd (err_ok
+    (sym (cond-false (eight_bytes s) (Ok (number_from_digits 256 s)) (Err (min (length s) 8)) h) ∙ r)))
     (cases_Bool (eight_bytes s))
 
 pub marking_reads : (s : Str) → IsMarking s → read_marking s ≡ Ok (number_from_digits 256 s)
@@ -98,7 +101,8 @@ number_of : (s : Str) (m : ℕ) → Spells s m → number_from_digits 256 s ≡ 
 number_of s m h =
     let n = number_spelled s h.state.eight h.state.bytes in
     same_bits 64 (number_from_digits 256 s) m n.marking h.marking
-    (λ c l. same_bit (bit (number_from_digits 256 s) c) (bit m c) (omega arith) (omega arith) (n.conditions_hold c l) (h.conditions_hold c l))
+    (λ c l. same_bit (bit (number_from_digits 256 s) c) (bit m c) (omega arith) (omega arith) (n.conditions_hold c l)
+    (h.conditions_hold c l))
 
 pub spelled_reads : (s : Str) (m : ℕ) → Spells s m → read_marking s ≡ Ok m
 spelled_reads s m h = marking_reads s h.state ∙ ap Ok (number_of s m h)
@@ -107,7 +111,9 @@ spelled_reads s m h = marking_reads s h.state ∙ ap Ok (number_of s m h)
 pub bytes_spell : (m : ℕ) → m < 2 ^ 64 → Spells (bytes_of m) m
 bytes_spell m h = read_spells (bytes_of m) m (read_bytes m h)
 
-eight_items : (s : Str) → length s ≡ 8 → slice_index s 0 ∷ slice_index s 1 ∷ slice_index s 2 ∷ slice_index s 3 ∷ slice_index s 4 ∷ slice_index s 5 ∷ slice_index s 6 ∷ slice_index s 7 ∷ [] ≡ s
+eight_items : (s : Str) → length s ≡ 8
+    → slice_index s 0 ∷ slice_index s 1 ∷ slice_index s 2 ∷ slice_index s 3 ∷ slice_index s 4 ∷ slice_index s 5
+    ∷ slice_index s 6 ∷ slice_index s 7 ∷ [] ≡ s
 eight_items [] e = absurd (omega arith)
 eight_items (a ∷ []) e = absurd (omega arith)
 eight_items (a ∷ b ∷ []) e = absurd (omega arith)

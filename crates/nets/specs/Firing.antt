@@ -1,4 +1,5 @@
--- The firing rule, and which events are independent: each as a relation, and as it is computed on the bits of markings. Assumes nothing.
+-- The firing rule, and which events are independent: each as a relation, and as it is computed on
+-- the bits of markings. Assumes nothing.
 use Rattle.std.specs.Prelude.{ℕ, ◌^◌, ◌<◌, Bool, ◌&&◌, ◌⊎◌, ◌↔◌, Some, None, Option, ◌==◌, bit_and, bit_or, bit_xor, if◌then◌else◌}
 use Rattle.nets.specs.declared.event.Event.{Event}
 use Rattle.nets.specs.Marking.{Holds}
@@ -9,7 +10,8 @@ pub record Fires (e : Event) (m m' : ℕ) : Type 0 where
   pub ready : (c : ℕ) → c < 64 → Holds e.before c → Holds m c
   pub free : (c : ℕ) → c < 64 → Holds e.after c → Holds m c → ⊥
   -- then what is after it holds, what is before it does not, and all else is as it was
-  pub follows : (c : ℕ) → c < 64 → Holds m' c ↔ (Holds e.after c ⊎ (Holds m c × (Holds e.before c → ⊥)))
+  pub follows : (c : ℕ) → c < 64
+      → Holds m' c ↔ (Holds e.after c ⊎ (Holds m c × (Holds e.before c → ⊥)))
   -- and it is a marking again
   pub marking : m' < 2 ^ 64
 

@@ -1,4 +1,5 @@
 pub mod Marking
+pub mod Conditions
 pub mod Events
 pub mod Firing
 pub mod Contents

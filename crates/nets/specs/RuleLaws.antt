@@ -1,4 +1,5 @@
--- What the meaning of a net owes the rules; each holds of the events of every net that exists. Assumes nothing.
+-- What the meaning of a net owes the rules; each holds of the events of every net that exists.
+-- Assumes nothing.
 use Rattle.std.specs.Prelude.{◌≡◌, ℕ, ◌↔◌, List, Some, Ok, Err, IsTrue}
 use Rattle.steps.specs.Meaning.{Str}
 use Rattle.steps.specs.Beginning.{LongestBeginning}
@@ -34,7 +35,8 @@ abbrev pub ShowsActions : List Event → Type 0
 ShowsActions es = (x : Str) (e : Event) → Names es x e →
     (net_transitions es).label x ≡ record { action = e.action }
 
--- of bytes that are no state, and of a string that is no step, the place where the longest beginning ends
+-- of bytes that are no state, and of a string that is no step, the place where the longest
+-- beginning ends
 abbrev pub StatePlaces : List Event → Type 0
 StatePlaces es = (s : Str) (p : ℕ) → AreBytes s →
     (net_transitions es).bad_state s ≡ Some p → LongestBeginning IsMarking s p

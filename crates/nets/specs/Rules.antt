@@ -1,4 +1,5 @@
--- The rules by which a net moves, and which of its steps are independent, said of strings. Assumes nothing.
+-- The rules by which a net moves, and which of its steps are independent, said of strings. Assumes
+-- nothing.
 use Rattle.std.specs.Prelude.{◌≡◌, ℕ, ◌-◌, ◌/◌, ◌%◌, ◌^◌, ◌<◌, ◌↔◌, List, [], ◌∷◌, length, Some, All, slice_get, slice_index}
 use Rattle.steps.specs.Meaning.{Str}
 use Rattle.steps.specs.Beginning.{LongestBeginning}
@@ -14,7 +15,8 @@ pub record IsMarking (s : Str) : Type 0 where
   pub eight : length s ≡ 8
   pub bytes : AreBytes s
 
--- The string spells the marking, its highest conditions first: condition c is bit c % 8 of the byte at 7 - c / 8.
+-- The string spells the marking, its highest conditions first: condition c is bit c % 8 of the byte
+-- at 7 - c / 8.
 pub record Spells (s : Str) (m : ℕ) : Type 0 where
   pub state : IsMarking s
   pub conditions_hold : (c : ℕ) → c < 64 → Holds m c ↔ Holds (slice_index s (7 - c / 8)) (c % 8)
@@ -30,7 +32,8 @@ pub record Names (es : List Event) (x : Str) (e : Event) : Type 0 where
 abbrev pub IsEvent : List Event → Str → Type 0
 IsEvent es x = (e : Event) × Names es x e
 
--- The step x names an event of the net, and from the marking that a spells this leads to the one that b spells.
+-- The step x names an event of the net, and from the marking that a spells this leads to the one
+-- that b spells.
 pub record NetGoes (es : List Event) (a x b : Str) : Type 0 where
   pub event : Event
   pub before : ℕ
@@ -55,7 +58,8 @@ pub record Stuck (es : List Event) (a x : Str) : Type 0 where
   pub step : IsEvent es x
   pub nowhere : (b : Str) → NetGoes es a x b → ⊥
 
--- Of a string that is no step, the longest beginning that begins one is told; of any string, where the net has no event, the start.
+-- Of a string that is no step, the longest beginning that begins one is told; of any string, where
+-- the net has no event, the start.
 pub data StepPlace (es : List Event) (x : Str) : ℕ → Type 0 where
   no_event : es ≡ [] → StepPlace es x 0
   unfit : {p : ℕ} → LongestBeginning (IsEvent es) x p → StepPlace es x p

@@ -1,4 +1,5 @@
--- A net as a step system: markings are its states, and the numbers of its events its steps. Assumes nothing.
+-- A net as a step system: markings are its states, and the numbers of its events its steps. Assumes
+-- nothing.
 use Rattle.std.specs.Prelude.{ℕ, false, List, [], ◌∷◌, is_ok, Some, None, Ok, Err, Option, Result, if◌then◌else◌}
 use Rattle.std.specs.List.{slice_get}
 use Rattle.std.specs.Result.{result_err}
@@ -11,7 +12,8 @@ use Rattle.nets.specs.declared.event.Event.{Event}
 use Rattle.nets.specs.Marking.{bytes_of, read_marking}
 use Rattle.nets.specs.Firing.{fire, apart_from}
 
--- the event that a number stands for, if nothing follows the number; else the place that does not fit
+-- the event that a number stands for, if nothing follows the number; else the place that does not
+-- fit
 abbrev pub lone_event : Option Event → Str → Result Event ℕ
 lone_event None x = Err 0
 lone_event (Some e) [] = Ok e

@@ -1,5 +1,6 @@
 // Events of a net: what must hold before one, and what holds after it.
-ghost use Rattle.std.specs.Prelude.{◌≡◌, ℕ, ◌↔◌, Some, IsTrue};
+ghost use Rattle.std.specs.Prelude.{◌≡◌, ℕ, ◌↔◌, Some, IsTrue, OnOk, IfErr};
+ghost use Rattle.nets.specs.Conditions.{IsProper, HasFault};
 ghost use Rattle.nets.specs.Events.{event_fault, add_answer};
 ghost use Rattle.nets.specs.Firing.{conditions, fire, apart_from, Fires, Apart};
 
@@ -10,7 +11,8 @@ use byte_strings::list::Blank;
 #[derive(Clone, Copy)]
 pub struct Event {
     // 0 is silent, 0x01 to 0x3F are names, 0x41 to 0x7F are their co-names.
-    // A byte and no enum: an event is made of any and then checked, so that a net can say what is wrong with it.
+    // A byte and no enum: an event is made of any and then checked, so that a net can say what is
+    // wrong with it.
     pub action: u8,
     pub before: u64,
     pub after: u64,
@@ -70,9 +72,11 @@ impl Event {
         self.conditions() & other.conditions() == 0
     }
 
-    // Whether a net may have the event, or what is wrong with it.
+    // Whether a net may have the event, or the first thing that is wrong with it.
     pub fn check(self) -> Result<(), EventFault>
-        ensures { result ≡ add_answer (event_fault self) }
+        ensures answer { result ≡ add_answer (event_fault self) }
+        ensures proper { OnOk result (IsProper self) }
+        ensures faulty { IfErr result (λ fault. HasFault self fault) }
     {
         if !is_action(self.action) {
             return Err(EventFault::NoAction);

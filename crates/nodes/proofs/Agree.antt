@@ -4,12 +4,10 @@ use Rattle.std.specs.Result.{result_err}
 use Rattle.std.proofs.lemmas.Bool.{cond-true, cond-false, lt-ltb, le-ltb, ltb-true, ltb-false, eqb-true}
 use Rattle.steps.specs.Meaning.{Str}
 use Rattle.ccs.specs.Reading.{Next, behind, onward, read}
-use Rattle.ccs.specs.declared.due.Due as dues
-use Rattle.ccs.specs.declared.due.Due.TheVariants as due
-use Rattle.nodes.specs.declared.scan.Due.{Due}
-use Rattle.nodes.specs.declared.scan.Due.TheVariants.{Node, Action, Name, Number}
+use Rattle.ccs.specs.declared.due.Due.{Due}
+use Rattle.ccs.specs.declared.due.Due.TheVariants.{Node, Action, Name, Number}
 use Rattle.nodes.specs.Whole.{done, one_on, whole, whole_fault}
-use Rattle.nodes.specs.Grammars.{due_of, due_in, wanted_next, fits_of}
+use Rattle.nodes.specs.Grammars.{wanted_next, fits_of}
 
 further : Option ℕ → Option ℕ
 further (Some p) = Some (1 + p)
@@ -29,21 +27,15 @@ unfolding further
 read_further f (Ok xs) = refl
 read_further f (Err p) = ap Some (omega arith)
 
-due_again : (d : dues.Due) → due_of (due_in d) ≡ d
-due_again due.Node = refl
-due_again due.Action = refl
-due_again due.Name = refl
-due_again due.Number = refl
+none_due : (d : Due) (k : ℕ) → done (record { due = d; count = k }) ≡ true → (d ≡ Node) × (k ≡ 0)
+none_due Node k e = (refl, eqb-true k 0 e)
+none_due Action k e = absurd (cc e)
+none_due Name k e = absurd (cc e)
+none_due Number k e = absurd (cc e)
 
-none_due : (d : dues.Due) (k : ℕ) → done (record { due = due_in d; count = k }) ≡ true → (d ≡ due.Node) × (k ≡ 0)
-none_due due.Node k e = (refl, eqb-true k 0 e)
-none_due due.Action k e = absurd (cc e)
-none_due due.Name k e = absurd (cc e)
-none_due due.Number k e = absurd (cc e)
-
-module _ {A : Type 0} (byte : dues.Due → ℕ → ℕ → Option (Next A)) (full : (b : ℕ) → byte due.Node 0 b ≡ None) where
+module _ {A : Type 0} (byte : Due → ℕ → ℕ → Option (Next A)) (full : (b : ℕ) → byte Node 0 b ≡ None) where
   -- behind the last one any byte is too many
-  behind_last : (f : List A → List A) (b : ℕ) (s : Str) → result_err (behind f (read byte due.Node 0 s)) ≡ whole_fault (Ok 1) (length (b ∷ s))
+  behind_last : (f : List A → List A) (b : ℕ) (s : Str) → result_err (behind f (read byte Node 0 s)) ≡ whole_fault (Ok 1) (length (b ∷ s))
   unfolding read
   behind_last f b [] = refl
   behind_last f b (c ∷ s) =
@@ -56,23 +48,23 @@ module _ {A : Type 0} (byte : dues.Due → ℕ → ℕ → Option (Next A)) (ful
       result_err (onward o (λ d j. read byte d j s))
       ≡ whole_fault (elim (wanted_next o) as (λ _. Result ℕ ℕ) [ None ↦ Err 0 | Some v ↦ cond (done v) (Ok 1) (one_on (whole (fits_of byte) v s)) ]) (length (b ∷ s))
 
-  pub agree : (d : Due) (k : ℕ) (s : Str) → done (record { due = d; count = k }) ≡ false → result_err (read byte (due_of d) k s) ≡ whole_fault (whole (fits_of byte) (record { due = d; count = k }) s) (length s)
+  pub agree : (d : Due) (k : ℕ) (s : Str) → done (record { due = d; count = k }) ≡ false → result_err (read byte d k s) ≡ whole_fault (whole (fits_of byte) (record { due = d; count = k }) s) (length s)
   unfolding read whole
   agree Node zero [] e = absurd (cc e)
   agree Node (suc k) [] e = refl
   agree Action k [] e = refl
   agree Name k [] e = refl
   agree Number k [] e = refl
-  agree d k (b ∷ s) e = go (byte (due_of d) k b) (λ d k. agree d k s)
+  agree d k (b ∷ s) e = go (byte d k b) (λ d k. agree d k s)
     where
-      on : (x : Next A) (c : Bool) → done (record { due = due_in x.due; count = x.count }) ≡ c
-          → (c ≡ false → result_err (read byte (due_of (due_in x.due)) x.count s) ≡ whole_fault (whole (fits_of byte) (record { due = due_in x.due; count = x.count }) s) (length s))
-          → result_err (behind x.build (read byte x.due x.count s)) ≡ whole_fault (cond c (Ok 1) (one_on (whole (fits_of byte) (record { due = due_in x.due; count = x.count }) s))) (length (b ∷ s))
+      on : (x : Next A) (c : Bool) → done (record { due = x.due; count = x.count }) ≡ c
+          → (c ≡ false → result_err (read byte (x.due) x.count s) ≡ whole_fault (whole (fits_of byte) (record { due = x.due; count = x.count }) s) (length s))
+          → result_err (behind x.build (read byte x.due x.count s)) ≡ whole_fault (cond c (Ok 1) (one_on (whole (fits_of byte) (record { due = x.due; count = x.count }) s))) (length (b ∷ s))
       on x true e h = let n = none_due x.due x.count e in rw (n.0, n.1) (behind_last x.build b s)
       on x false e h =
-          read_further x.build (read byte x.due x.count s) ∙ ap (λ d. further (result_err (read byte d x.count s))) (sym (due_again x.due)) ∙ ap further (h refl)
-          ∙ sym (fault_on (whole (fits_of byte) (record { due = due_in x.due; count = x.count }) s) (length s))
+          read_further x.build (read byte x.due x.count s) ∙ ap further (h refl)
+          ∙ sym (fault_on (whole (fits_of byte) (record { due = x.due; count = x.count }) s) (length s))
 
-      go : (o : Option (Next A)) → ((d : Due) (k : ℕ) → done (record { due = d; count = k }) ≡ false → result_err (read byte (due_of d) k s) ≡ whole_fault (whole (fits_of byte) (record { due = d; count = k }) s) (length s)) → OverByte b s o
+      go : (o : Option (Next A)) → ((d : Due) (k : ℕ) → done (record { due = d; count = k }) ≡ false → result_err (read byte d k s) ≡ whole_fault (whole (fits_of byte) (record { due = d; count = k }) s) (length s)) → OverByte b s o
       go None h = refl
-      go (Some x) h = on x (done (record { due = due_in x.due; count = x.count })) refl (h (due_in x.due) x.count)
+      go (Some x) h = on x (done (record { due = x.due; count = x.count })) refl (h x.due x.count)

@@ -1,4 +1,6 @@
 pub mod Whole
+pub mod Ahead
+pub mod Sizes
 pub mod Agree
 pub mod Faults
 pub mod Split

@@ -3,12 +3,7 @@ use Rattle.std.proofs.Common.{◌≡◌, ℕ, ◌+◌, ◌<◌, ◌≤◌, true,
 use Rattle.std.proofs.lemmas.List.{drop_more, drop_all}
 use Rattle.steps.specs.Meaning.{Str}
 use Rattle.nodes.specs.declared.scan.Wanted.{Wanted}
-use Rattle.nodes.specs.Whole.{done, one_on, whole}
-
--- so many bytes further on
-unfoldable pub shifted : ℕ → Result ℕ ℕ → Result ℕ ℕ
-shifted i (Ok n) = Ok (i + n)
-shifted i (Err p) = Err (i + p)
+use Rattle.nodes.specs.Whole.{done, one_on, whole, shifted}
 
 pub shifted_none : (r : Result ℕ ℕ) → shifted 0 r ≡ r
 unfolding shifted

@@ -1,28 +1,29 @@
 -- Which bytes fit, of terms and of proofs, without what they make. Assumes nothing.
-use Rattle.std.specs.Prelude.{ℕ, Some, None, Option}
+use Rattle.std.specs.Prelude.{ℕ, Some, None, Option, nat_eq, if◌then◌else◌}
+use Rattle.ccs.specs.declared.node_bytes.TheConstants.{NIL, PREFIX, RESTRICTION, CALL, ACT, BOTH, UNDER}
 use Rattle.ccs.specs.Reading.{Next}
-use Rattle.ccs.specs.declared.due.Due as dues
-use Rattle.ccs.specs.declared.due.Due.TheVariants as due
-use Rattle.nodes.specs.declared.scan.Due.{Due}
-use Rattle.nodes.specs.declared.scan.Due.TheVariants.{Node, Action, Name, Number}
+use Rattle.ccs.specs.declared.due.Due.{Due}
 use Rattle.nodes.specs.declared.scan.Wanted.{Wanted}
-
-abbrev pub due_of : Due → dues.Due
-due_of Node = due.Node
-due_of Action = due.Action
-due_of Name = due.Name
-due_of Number = due.Number
-
-abbrev pub due_in : dues.Due → Due
-due_in due.Node = Node
-due_in due.Action = Action
-due_in due.Name = Name
-due_in due.Number = Number
+use Rattle.nodes.specs.declared.scan.Size.{Size}
 
 -- what is due behind a byte
 abbrev pub wanted_next : {A : Type 0} → Option (Next A) → Option Wanted
 wanted_next None = None
-wanted_next (Some x) = Some (record { due = due_in x.due; count = x.count })
+wanted_next (Some x) = Some (record { due = x.due; count = x.count })
 
-abbrev pub fits_of : {A : Type 0} → (dues.Due → ℕ → ℕ → Option (Next A)) → Wanted → ℕ → Option Wanted
-fits_of byte w b = wanted_next (byte (due_of w.due) w.count b)
+abbrev pub fits_of : {A : Type 0} → (Due → ℕ → ℕ → Option (Next A)) → Wanted → ℕ → Option Wanted
+fits_of byte w b = wanted_next (byte w.due w.count b)
+
+-- how many bytes of its own a node has, and how many parts, by its first byte
+abbrev pub proof_size : ℕ → Size
+proof_size kind =
+    if nat_eq kind ACT then record { own = 2; parts = 0 }
+    else if nat_eq kind BOTH then record { own = 1; parts = 2 }
+    else if nat_eq kind UNDER then record { own = 2; parts = 1 } else record { own = 1; parts = 1 }
+
+abbrev pub term_size : ℕ → Size
+term_size kind =
+    if nat_eq kind NIL then record { own = 1; parts = 0 }
+    else if nat_eq kind PREFIX then record { own = 2; parts = 1 }
+    else if nat_eq kind RESTRICTION then record { own = 2; parts = 1 }
+    else if nat_eq kind CALL then record { own = 2; parts = 0 } else record { own = 1; parts = 2 }

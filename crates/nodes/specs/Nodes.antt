@@ -1,5 +1,5 @@
 -- The node that a string is read as, with its parts as strings. Assumes nothing.
-use Rattle.std.specs.Prelude.{◌≡◌, ℕ, ◌+◌, nat_eq, length, Some, None, Ok, Err, Option, Result, if◌then◌else◌}
+use Rattle.std.specs.Prelude.{◌≡◌, ℕ, ◌+◌, nat_eq, length, is_ok, Some, None, Ok, Err, Option, Result, IsTrue, if◌then◌else◌}
 use Rattle.steps.specs.Meaning.{Str}
 use Rattle.ccs.specs.Syntax.{Term, Proof}
 use Rattle.ccs.specs.Syntax.Term.{nil, prefix, par, sum, restrict, call}
@@ -84,6 +84,24 @@ Fills (Some (Both s r)) n = n ≡ 1 + (length s + length r)
 Fills (Some (ChooseLeft s)) n = n ≡ 1 + length s
 Fills (Some (ChooseRight s)) n = n ≡ 1 + length s
 Fills (Some (Under m s)) n = n ≡ 2 + length s
+
+-- The parts of a node are proofs, and those of a term's node terms over n definitions.
+abbrev pub ProofsRead : NodeOfProof → Type 0
+ProofsRead (Act a) = Unit {0}
+ProofsRead (Left s) = IsTrue (is_ok (read_proof s))
+ProofsRead (Right s) = IsTrue (is_ok (read_proof s))
+ProofsRead (Both s r) = IsTrue (is_ok (read_proof s)) × IsTrue (is_ok (read_proof r))
+ProofsRead (ChooseLeft s) = IsTrue (is_ok (read_proof s))
+ProofsRead (ChooseRight s) = IsTrue (is_ok (read_proof s))
+ProofsRead (Under m s) = IsTrue (is_ok (read_proof s))
+
+abbrev pub TermsRead : ℕ → NodeOfTerm → Type 0
+TermsRead n Nil = Unit {0}
+TermsRead n (Prefix a s) = IsTrue (is_ok (read_term n s))
+TermsRead n (Par s r) = IsTrue (is_ok (read_term n s)) × IsTrue (is_ok (read_term n r))
+TermsRead n (Sum s r) = IsTrue (is_ok (read_term n s)) × IsTrue (is_ok (read_term n r))
+TermsRead n (Restrict m s) = IsTrue (is_ok (read_term n s))
+TermsRead n (Call d) = Unit {0}
 
 -- what a proof does on the left and on the right of a parallel term
 abbrev pub sides_of : NodeOfProof → Option (Option Str × Option Str)

@@ -1,5 +1,6 @@
 -- The node that a first byte makes of the bytes behind it, whatever the parts are. Assumes nothing.
 use Rattle.std.specs.Prelude.{ℕ, [], ◌∷◌, Some, None, Option, nat_eq, if◌then◌else◌}
+use Rattle.ccs.specs.declared.node_bytes.TheConstants.{NIL, PREFIX, PARALLEL, SUM, RESTRICTION, CALL, ACT, LEFT, RIGHT, BOTH, CHOOSE_LEFT, CHOOSE_RIGHT, UNDER}
 use Rattle.steps.specs.Meaning.{Str}
 use Rattle.ccs.specs.Reading.{term_byte, proof_byte}
 use Rattle.nodes.specs.Whole.{whole, start, split_answer}
@@ -22,21 +23,26 @@ module _ {A : Type 0} where
   two_parts f None = None
   two_parts f (Some (s, r)) = Some (f s r)
 
+-- the node of a string's first byte and the bytes behind it
+abbrev pub on_first : {A : Type 0} → (ℕ → Str → Option A) → Str → Option A
+on_first shape [] = None
+on_first shape (k ∷ s) = shape k s
+
 abbrev pub proof_shape : ℕ → Str → Option NodeOfProof
 proof_shape kind s =
-    if nat_eq kind 0x10 then own_only Act s
-    else if nat_eq kind 0x11 then Some (Left s)
-    else if nat_eq kind 0x12 then Some (Right s)
-    else if nat_eq kind 0x13 then two_parts Both (split_answer (whole (fits_of proof_byte) start s) s)
-    else if nat_eq kind 0x14 then Some (ChooseLeft s)
-    else if nat_eq kind 0x15 then Some (ChooseRight s)
-    else if nat_eq kind 0x16 then own_and_part Under s else None
+    if nat_eq kind ACT then own_only Act s
+    else if nat_eq kind LEFT then Some (Left s)
+    else if nat_eq kind RIGHT then Some (Right s)
+    else if nat_eq kind BOTH then two_parts Both (split_answer (whole (fits_of proof_byte) start s) s)
+    else if nat_eq kind CHOOSE_LEFT then Some (ChooseLeft s)
+    else if nat_eq kind CHOOSE_RIGHT then Some (ChooseRight s)
+    else if nat_eq kind UNDER then own_and_part Under s else None
 
 abbrev pub term_shape : ℕ → ℕ → Str → Option NodeOfTerm
 term_shape n kind s =
-    if nat_eq kind 0x00 then Some Nil
-    else if nat_eq kind 0x01 then own_and_part Prefix s
-    else if nat_eq kind 0x02 then two_parts Par (split_answer (whole (fits_of (term_byte n)) start s) s)
-    else if nat_eq kind 0x03 then two_parts Sum (split_answer (whole (fits_of (term_byte n)) start s) s)
-    else if nat_eq kind 0x04 then own_and_part Restrict s
-    else if nat_eq kind 0x05 then own_only Call s else None
+    if nat_eq kind NIL then Some Nil
+    else if nat_eq kind PREFIX then own_and_part Prefix s
+    else if nat_eq kind PARALLEL then two_parts Par (split_answer (whole (fits_of (term_byte n)) start s) s)
+    else if nat_eq kind SUM then two_parts Sum (split_answer (whole (fits_of (term_byte n)) start s) s)
+    else if nat_eq kind RESTRICTION then own_and_part Restrict s
+    else if nat_eq kind CALL then own_only Call s else None

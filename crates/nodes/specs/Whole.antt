@@ -1,7 +1,7 @@
 -- How far a string is one term or proof, by what is due behind each byte. Assumes nothing.
-use Rattle.std.specs.Prelude.{ℕ, ◌+◌, ◌≤◌, Bool, false, [], ◌∷◌, Some, None, Ok, Err, Option, Result, ◌==◌, nat_lt, nat_le, length, take, drop, if◌then◌else◌}
+use Rattle.std.specs.Prelude.{◌≡◌, ℕ, zero, suc, ◌+◌, ◌≤◌, Bool, false, [], ◌∷◌, Some, None, Ok, Err, Option, Result, ◌==◌, nat_lt, nat_le, length, take, drop, if◌then◌else◌}
 use Rattle.steps.specs.Meaning.{Str}
-use Rattle.nodes.specs.declared.scan.Due.TheVariants.{Node, Action, Name, Number}
+use Rattle.ccs.specs.declared.due.Due.TheVariants.{Node, Action, Name, Number}
 use Rattle.nodes.specs.declared.scan.Wanted.{Wanted}
 
 -- a byte makes at most one more due
@@ -36,3 +36,19 @@ whole_fault (Err p) l = Some p
 abbrev pub split_answer : Result ℕ ℕ → Str → Option (Str × Str)
 split_answer (Ok n) s = if nat_le n (length s) then Some (take n s, drop n s) else None
 split_answer (Err p) s = None
+
+-- so many bytes further on
+unfoldable pub shifted : ℕ → Result ℕ ℕ → Result ℕ ℕ
+shifted i (Ok n) = Ok (i + n)
+shifted i (Err p) = Err (i + p)
+
+-- behind so many bytes, where so many terms or proofs are due
+unfoldable pub ahead : (Wanted → ℕ → Option Wanted) → ℕ → ℕ → Str → Result ℕ ℕ
+ahead fits l zero s = Ok l
+ahead fits l (suc k) s = shifted l (whole fits (record { due = Node; count = suc k }) s)
+
+-- Where a string begins with terms or proofs, a node with this first byte has so many bytes of its own, and so many parts.
+abbrev pub IsSize : (Wanted → ℕ → Option Wanted) → ℕ → ℕ → ℕ → Type 0
+IsSize fits kind own parts =
+    (d : ℕ) (s : Str) (n : ℕ) → whole fits (record { due = Node; count = suc d }) (kind ∷ s) ≡ Ok n
+    → whole fits (record { due = Node; count = suc d }) (kind ∷ s) ≡ ahead fits own (parts + d) (drop own (kind ∷ s))

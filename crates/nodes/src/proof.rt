@@ -1,15 +1,17 @@
 // The nodes of a proof.
-ghost use Rattle.std.specs.Prelude.{◌≡◌, suc, ◌+◌, ◌<◌, ◌^◌, length};
+ghost use Rattle.std.specs.Prelude.{◌≡◌, suc, ◌+◌, ◌<◌, ◌≤◌, ◌^◌, Some, is_ok, length, IsTrue};
 ghost use Rattle.std.specs.Result.{result_err};
 ghost use Rattle.ccs.specs.Reading.{read_proof, proof_byte};
-ghost use Rattle.nodes.specs.declared.scan.Due.TheVariants.{Node};
+ghost use Rattle.ccs.specs.declared.due.Due.TheVariants.{Node};
 ghost use Rattle.nodes.specs.Whole.{at_most_one_more};
-ghost use Rattle.nodes.specs.Grammars.{fits_of};
-ghost use Rattle.nodes.specs.Nodes.{ProofNode, Fills, proof_view};
-ghost use Rattle.nodes.specs.Shapes.{proof_shape};
+ghost use Rattle.nodes.specs.Grammars.{fits_of, proof_size};
+ghost use Rattle.nodes.specs.Nodes.{ProofNode, Fills, ProofsRead, node_of_proof, proof_view};
+ghost use Rattle.nodes.specs.Shapes.{proof_shape, on_first};
 
-use crate::scan::{Due, Grammar, Wanted, fault, split};
+use crate::scan::{Grammar, Size, Wanted, fault, split};
 use actions::action::{is_action, is_name};
+use ccs::due::Due;
+use ccs::node_bytes::{ACT, LEFT, RIGHT, BOTH, CHOOSE_LEFT, CHOOSE_RIGHT, UNDER};
 
 // A node of a proof, with its parts as they stand in the string.
 #[derive(Clone, Copy)]
@@ -35,10 +37,29 @@ impl Grammar for Proofs {
         let Wanted { due, count } = wanted;
         match due {
             Due::Node if count > 0 => node_byte(count - 1, byte),
-            Due::Action if is_action(byte) => Some(Due::Node.of(count)),
-            Due::Name if is_name(byte) => Some(Due::Node.of(count + 1)),
+            Due::Action if is_action(byte) => Some(Wanted::new(Due::Node, count)),
+            Due::Name if is_name(byte) => Some(Wanted::new(Due::Node, count + 1)),
             _ => None,
         }
+    }
+
+    fn size(&self, kind: u8) -> Size {
+        node_size(kind)
+    }
+}
+
+// The size of a proof's node with this first byte.
+fn node_size(kind: u8) -> Size
+    ensures size { result ≡ proof_size kind }
+    ensures some { 1 ≤ result.own }
+    ensures few { result.parts ≤ result.own + 1 }
+    ensures short { result.own ≤ 2 }
+{
+    match kind {
+        ACT => Size { own: 2, parts: 0 },
+        BOTH => Size { own: 1, parts: 2 },
+        UNDER => Size { own: 2, parts: 1 },
+        _ => Size { own: 1, parts: 1 },
     }
 }
 
@@ -50,10 +71,10 @@ fn node_byte(rest: usize, byte: u8) -> Option<Wanted>
     ensures few { at_most_one_more result (suc rest) }
 {
     match byte {
-        0x10 => Some(Due::Action.of(rest)),
-        0x11 | 0x12 | 0x14 | 0x15 => Some(Due::Node.of(rest + 1)),
-        0x13 => Some(Due::Node.of(rest + 2)),
-        0x16 => Some(Due::Name.of(rest)),
+        ACT => Some(Wanted::new(Due::Action, rest)),
+        LEFT | RIGHT | CHOOSE_LEFT | CHOOSE_RIGHT => Some(Wanted::new(Due::Node, rest + 1)),
+        BOTH => Some(Wanted::new(Due::Node, rest + 2)),
+        UNDER => Some(Wanted::new(Due::Name, rest)),
         _ => None,
     }
 }
@@ -66,37 +87,38 @@ impl Proof<'_> {
         fault(&Proofs, bytes)
     }
 
-    // Reads a proof as its first node; none where the string is no proof.
-    pub fn read(bytes: &[u8]) -> Option<Proof<'_>>
-        ensures node { ProofNode (proof_view result) (read_proof bytes.now) }
-        ensures lengths { Fills (proof_view result) (length bytes.now) }
+    // The first node of a string that is a proof. Its parts are proofs, so nothing is read again.
+    pub fn of(bytes: &[u8]) -> Proof<'_>
+        requires { IsTrue (is_ok (read_proof bytes.now)) }
+        ensures node { ProofNode (Some (node_of_proof result)) (read_proof bytes.now) }
+        ensures lengths { Fills (Some (node_of_proof result)) (length bytes.now) }
+        ensures parts { ProofsRead (node_of_proof result) }
     {
-        if fault(&Proofs, bytes).is_some() {
-            return None;
-        }
-        let Some((kind, rest)) = bytes.split_first() else {
-            return None;
+        let Some(node) = shape(bytes) else {
+            return unreachable();
         };
-        shape(*kind, rest)
+        node
     }
 }
 
-// The node with this first byte, before these bytes; none where they do not fit it.
-fn shape(kind: u8, rest: &[u8]) -> Option<Proof<'_>>
-    ensures node { proof_view result ≡ proof_shape kind rest.now }
-    ensures lengths { Fills (proof_view result) (length rest.now + 1) }
+// The node with the first byte, before the others; none where they do not fit it.
+fn shape(bytes: &[u8]) -> Option<Proof<'_>>
+    requires { IsTrue (is_ok (read_proof bytes.now)) }
+    ensures node { proof_view result ≡ on_first proof_shape bytes.now }
+    ensures lengths { Fills (proof_view result) (length bytes.now) }
 {
-    match kind {
-        0x10 => Some(Proof::Act(*rest.first()?)),
-        0x11 => Some(Proof::Left(rest)),
-        0x12 => Some(Proof::Right(rest)),
-        0x13 => {
-            let (first, second) = split(&Proofs, rest)?;
+    let (kind, rest) = bytes.split_first()?;
+    match *kind {
+        ACT => Some(Proof::Act(*rest.first()?)),
+        LEFT => Some(Proof::Left(rest)),
+        RIGHT => Some(Proof::Right(rest)),
+        BOTH => {
+            let (first, second) = split(&Proofs, rest);
             Some(Proof::Both(first, second))
         }
-        0x14 => Some(Proof::ChooseLeft(rest)),
-        0x15 => Some(Proof::ChooseRight(rest)),
-        0x16 => {
+        CHOOSE_LEFT => Some(Proof::ChooseLeft(rest)),
+        CHOOSE_RIGHT => Some(Proof::ChooseRight(rest)),
+        UNDER => {
             let (name, part) = rest.split_first()?;
             Some(Proof::Under(*name, part))
         }

@@ -1,15 +1,17 @@
 // The nodes of a term.
-ghost use Rattle.std.specs.Prelude.{◌≡◌, suc, ◌<◌, ◌^◌};
+ghost use Rattle.std.specs.Prelude.{◌≡◌, suc, ◌+◌, ◌<◌, ◌≤◌, ◌^◌, Some, is_ok, IsTrue};
 ghost use Rattle.std.specs.Result.{result_err};
 ghost use Rattle.ccs.specs.Reading.{read_term, term_byte};
-ghost use Rattle.nodes.specs.declared.scan.Due.TheVariants.{Node};
+ghost use Rattle.ccs.specs.declared.due.Due.TheVariants.{Node};
 ghost use Rattle.nodes.specs.Whole.{at_most_one_more};
-ghost use Rattle.nodes.specs.Grammars.{fits_of};
-ghost use Rattle.nodes.specs.Nodes.{TermNode, term_view};
-ghost use Rattle.nodes.specs.Shapes.{term_shape};
+ghost use Rattle.nodes.specs.Grammars.{fits_of, term_size};
+ghost use Rattle.nodes.specs.Nodes.{TermNode, TermsRead, node_of_term, term_view};
+ghost use Rattle.nodes.specs.Shapes.{term_shape, on_first};
 
-use crate::scan::{Due, Grammar, Wanted, fault, split};
+use crate::scan::{Grammar, Size, Wanted, fault, split};
 use actions::action::{is_action, is_name};
+use ccs::due::Due;
+use ccs::node_bytes::{NIL, PREFIX, PARALLEL, SUM, RESTRICTION, CALL};
 
 // A node of a term, with its parts as they stand in the string.
 #[derive(Clone, Copy)]
@@ -36,11 +38,31 @@ impl Grammar for Terms {
         let Wanted { due, count } = wanted;
         match due {
             Due::Node if count > 0 => self.node_byte(count - 1, byte),
-            Due::Action if is_action(byte) => Some(Due::Node.of(count + 1)),
-            Due::Name if is_name(byte) => Some(Due::Node.of(count + 1)),
-            Due::Number if byte < self.definitions => Some(Due::Node.of(count)),
+            Due::Action if is_action(byte) => Some(Wanted::new(Due::Node, count + 1)),
+            Due::Name if is_name(byte) => Some(Wanted::new(Due::Node, count + 1)),
+            Due::Number if byte < self.definitions => Some(Wanted::new(Due::Node, count)),
             _ => None,
         }
+    }
+
+    fn size(&self, kind: u8) -> Size {
+        node_size(kind)
+    }
+}
+
+// The size of a term's node with this first byte.
+fn node_size(kind: u8) -> Size
+    ensures size { result ≡ term_size kind }
+    ensures some { 1 ≤ result.own }
+    ensures few { result.parts ≤ result.own + 1 }
+    ensures short { result.own ≤ 2 }
+{
+    match kind {
+        NIL => Size { own: 1, parts: 0 },
+        PREFIX => Size { own: 2, parts: 1 },
+        RESTRICTION => Size { own: 2, parts: 1 },
+        CALL => Size { own: 2, parts: 0 },
+        _ => Size { own: 1, parts: 2 },
     }
 }
 
@@ -53,38 +75,40 @@ impl Terms {
         ensures few { at_most_one_more result (suc rest) }
     {
         match byte {
-            0x00 => Some(Due::Node.of(rest)),
-            0x01 => Some(Due::Action.of(rest)),
-            0x02 | 0x03 => Some(Due::Node.of(rest + 2)),
-            0x04 => Some(Due::Name.of(rest)),
-            0x05 => (self.definitions > 0).then_some(Due::Number.of(rest)),
+            NIL => Some(Wanted::new(Due::Node, rest)),
+            PREFIX => Some(Wanted::new(Due::Action, rest)),
+            PARALLEL | SUM => Some(Wanted::new(Due::Node, rest + 2)),
+            RESTRICTION => Some(Wanted::new(Due::Name, rest)),
+            CALL => (self.definitions > 0).then_some(Wanted::new(Due::Number, rest)),
             _ => None,
         }
     }
 
-    // The node with this first byte, before these bytes; none where they do not fit it.
-    fn shape<'a>(&self, kind: u8, rest: &'a [u8]) -> Option<Term<'a>>
-        ensures { term_view result ≡ term_shape self.now.definitions kind rest.now }
+    // The node with the first byte, before the others; none where they do not fit it.
+    fn shape<'a>(&self, bytes: &'a [u8]) -> Option<Term<'a>>
+        requires { IsTrue (is_ok (read_term self.now.definitions bytes.now)) }
+        ensures { term_view result ≡ on_first (term_shape self.now.definitions) bytes.now }
     {
-        match kind {
-            0x00 => Some(Term::Nil),
-            0x01 => {
+        let (kind, rest) = bytes.split_first()?;
+        match *kind {
+            NIL => Some(Term::Nil),
+            PREFIX => {
                 let (action, part) = rest.split_first()?;
                 Some(Term::Prefix(*action, part))
             }
-            0x02 => {
-                let (first, second) = split(self, rest)?;
+            PARALLEL => {
+                let (first, second) = split(self, rest);
                 Some(Term::Par(first, second))
             }
-            0x03 => {
-                let (first, second) = split(self, rest)?;
+            SUM => {
+                let (first, second) = split(self, rest);
                 Some(Term::Sum(first, second))
             }
-            0x04 => {
+            RESTRICTION => {
                 let (name, part) = rest.split_first()?;
                 Some(Term::Restrict(*name, part))
             }
-            0x05 => Some(Term::Call(*rest.first()?)),
+            CALL => Some(Term::Call(*rest.first()?)),
             _ => None,
         }
     }
@@ -98,17 +122,16 @@ impl Term<'_> {
         fault(&Terms { definitions }, bytes)
     }
 
-    // Reads a term over so many definitions as its first node; none where the string is no term.
-    pub fn read(definitions: u8, bytes: &[u8]) -> Option<Term<'_>>
-        ensures { TermNode definitions (term_view result) (read_term definitions bytes.now) }
+    // The first node of a string that is a term over so many definitions. Its parts are terms over them, so nothing is read again.
+    pub fn of(definitions: u8, bytes: &[u8]) -> Term<'_>
+        requires { IsTrue (is_ok (read_term definitions bytes.now)) }
+        ensures node { TermNode definitions (Some (node_of_term result)) (read_term definitions bytes.now) }
+        ensures parts { TermsRead definitions (node_of_term result) }
     {
         let terms = Terms { definitions };
-        if fault(&terms, bytes).is_some() {
-            return None;
-        }
-        let Some((kind, rest)) = bytes.split_first() else {
-            return None;
+        let Some(node) = terms.shape(bytes) else {
+            return unreachable();
         };
-        terms.shape(*kind, rest)
+        node
     }
 }

@@ -1,6 +1,5 @@
 -- What a string shows that begins with a proof. Assumes nothing.
-use Rattle.std.proofs.Common.{◌≡◌, ℕ, true, false, is_none, [], ◌++◌, Ok, Err, Result, sym, refl, ap, ◌∙◌, append-nil}
-use Rattle.std.specs.Result.{result_err}
+use Rattle.std.proofs.Common.{◌≡◌, ℕ, true, is_ok, [], ◌++◌, Ok, Err, Result, sym, refl, ap, ◌∙◌, append-nil}
 use Rattle.steps.specs.Meaning.{Str}
 use Rattle.steps.specs.declared.label.Label.{Label}
 use Rattle.ccs.specs.Syntax.{Proof}
@@ -26,16 +25,10 @@ shows (under n t) s = shows t s
 pub shown_is : (s : Str) (t : Proof) → read_proof s ≡ Ok t → shown s ≡ label t
 shown_is s t e = ap shown (sym (append-nil (proof_bytes t) ∙ (read_is_proof s t e).0)) ∙ shows t []
 
-pub labelled : (s : Str) → is_none (result_err (read_proof s)) ≡ true → record { action = shown s } ≡ label_of (read_proof s)
+-- so does the label
+pub labelled : (s : Str) → is_ok (read_proof s) ≡ true → record { action = shown s } ≡ label_of (read_proof s)
 labelled s e = go (read_proof s) refl e
   where
-    go : (r : Result Proof ℕ) → read_proof s ≡ r → is_none (result_err r) ≡ true → ◌≡◌ {A = Label} (record { action = shown s }) (label_of r)
+    go : (r : Result Proof ℕ) → read_proof s ≡ r → is_ok r ≡ true → ◌≡◌ {A = Label} (record { action = shown s }) (label_of r)
     go (Ok t) f g = ap (λ a. record { action = a }) (shown_is s t f)
     go (Err k) f g = absurd (cc g)
-
-pub not_labelled : (s : Str) → is_none (result_err (read_proof s)) ≡ false → record { action = 0 } ≡ label_of (read_proof s)
-not_labelled s e = go (read_proof s) e
-  where
-    go : (r : Result Proof ℕ) → is_none (result_err r) ≡ false → ◌≡◌ {A = Label} (record { action = 0 }) (label_of r)
-    go (Ok t) g = absurd (cc g)
-    go (Err k) g = refl

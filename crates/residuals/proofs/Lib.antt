@@ -4,3 +4,4 @@ pub mod Onto
 pub mod Left
 pub mod Back
 pub mod Misfits
+pub mod Lengths

@@ -1,11 +1,11 @@
 -- What is answered of strings that are to be proofs. Assumes nothing.
-use Rattle.std.specs.Prelude.{ℕ, ◌≤◌, Bool, true, false, nat_eq, [], ◌∷◌, Some, None, Option, if◌then◌else◌}
+use Rattle.std.specs.Prelude.{ℕ, ◌≤◌, Bool, true, false, nat_eq, [], ◌∷◌, Some, None, Option, is_ok, IsTrue, if◌then◌else◌}
 use Rattle.steps.specs.Meaning.{Str}
 use Rattle.ccs.specs.Reading.{read_proof}
 use Rattle.ccs.specs.Residual.{residual, origin}
 use Rattle.ccs.specs.System.{of_both}
 
--- what is left of the first after the second, and back, of strings that are proofs; none of others
+-- residuals and origins of strings that are proofs; none of others
 abbrev pub residual_of : Str → Str → Option Str
 residual_of x y = of_both residual (read_proof x) (read_proof y)
 
@@ -16,6 +16,11 @@ origin_of x z = of_both origin (read_proof x) (read_proof z)
 abbrev pub beside_of : (Str → Option Str) → Str → Option Str → Option Str
 beside_of f s (Some r) = f r
 beside_of f s None = Some s
+
+-- a part is a proof, if there is one
+abbrev pub PartRead : Option Str → Type 0
+PartRead (Some s) = IsTrue (is_ok (read_proof s))
+PartRead None = Unit {0}
 
 -- a place is within a string of this length, if there is one
 abbrev pub Within : Option ℕ → ℕ → Type 0

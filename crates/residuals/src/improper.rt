@@ -1,5 +1,5 @@
 // Which steps are proper.
-ghost use Rattle.std.specs.Prelude.{◌≡◌, length};
+ghost use Rattle.std.specs.Prelude.{◌≡◌, length, is_ok, IsTrue};
 ghost use Rattle.ccs.specs.Reading.{read_proof};
 ghost use Rattle.ccs.specs.System.{improper_of};
 ghost use Rattle.residuals.specs.Steps.{Within};
@@ -8,13 +8,14 @@ use crate::label::shown;
 use actions::action::{complementary, name_of};
 use nodes::proof::Proof;
 
-// The first improper node, by the place of its first byte: two sides that show no name and its co-name, or a restriction of the name that
-// is shown. None of a string that is no proof.
+// The first improper node of a proof, by the place of its first byte: two sides that show no name and its co-name, or a restriction of the name that
+// is shown.
 pub fn improper(step: &[u8]) -> Option<usize>
+    requires { IsTrue (is_ok (read_proof step.now)) }
     ensures place { result ≡ improper_of (read_proof step.now) }
     ensures within { Within result (length step.now) }
 {
-    match Proof::read(step)? {
+    match Proof::of(step) {
         Proof::Act(_) => None,
         Proof::Left(part)
         | Proof::Right(part)

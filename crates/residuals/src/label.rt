@@ -1,5 +1,5 @@
 // What a step shows.
-ghost use Rattle.std.specs.Prelude.{◌≡◌};
+ghost use Rattle.std.specs.Prelude.{◌≡◌, is_ok, IsTrue};
 ghost use Rattle.ccs.specs.Reading.{read_proof};
 ghost use Rattle.ccs.specs.System.{label_of};
 ghost use Rattle.residuals.specs.Steps.{shown};
@@ -7,17 +7,14 @@ ghost use Rattle.residuals.specs.Steps.{shown};
 use nodes::proof::Proof;
 use steps::label::Label;
 
-// Two sides together are silent; else the step shows what its prefix does. A string that is no proof is silent.
-#[tactic(auto, using(crate::proofs::Labels::labelled, crate::proofs::Labels::not_labelled))]
+// Two sides together are silent; else the proof shows what its prefix does.
 pub fn label(step: &[u8]) -> Label
+    requires { IsTrue (is_ok (read_proof step.now)) }
     ensures { result ≡ label_of (read_proof step.now) }
 {
-    let action = if Proof::fault(step).is_none() {
-        shown(step)
-    } else {
-        0
-    };
-    Label { action }
+    Label {
+        action: shown(step),
+    }
 }
 
 // What a string shows that begins with a proof: its nodes are gone through as far as the prefix, and no more of it is read.

@@ -1,4 +1,4 @@
--- What follows from an answer that was given. Assumes nothing.
+-- What follows from an answer that was given.
 use Rattle.std.proofs.Common.{◌≡◌, ℕ, ◌≤◌, min, Bool, true, false, cond, leb, length, Some, None, Ok, Err, Option, Result, sym, refl, ap, ◌∙◌, subst, arith}
 use Rattle.std.proofs.lemmas.Bool.{leb-true}
 use Rattle.steps.specs.declared.fault.MaskFault.{MaskFault}
@@ -65,6 +65,8 @@ moved_ok (Ok w) n b e = let f = fits_ok w b n e in
     (ap Ok f.0, subst (λ v. length v ≤ n) f.0 f.1, subst (λ v. length v ≤ 256) f.0 f.2)
 moved_ok (Err p) n b e = ok_not_err b _ (sym e)
 
+-- A state that is answered says that no refusal came before it: by cases of each, in the order of the
+-- question, an answer behind a refusal is no refusal only where there is none, and so the next is looked at.
 pub next_ok : (t : Transitions) (a x b : Str) (n : ℕ) → next_answer t a x n ≡ Ok b → Followed t a x b n
 next_ok t a x b n e =
     let s = first_ok _ _ b e in

@@ -1,4 +1,4 @@
--- What each question to a step system answers. Assumes nothing.
+-- What each question to a step system answers.
 -- An answer is the meaning of what is asked for, or else the first refusal in this order:
 -- a string is no step, a step is masked, a string is no state, the step is not possible, the string
 -- that would be answered is too long. Two steps are both asked for their shape, the first before

@@ -1,4 +1,4 @@
--- How far a string begins one of a kind. Assumes nothing.
+-- How far a string begins one of a kind.
 use Rattle.std.specs.Prelude.{ℕ, ◌<◌, ◌≤◌, ◌++◌, length, take}
 use Rattle.steps.specs.Meaning.{Str}
 

@@ -1,4 +1,4 @@
--- The laws that every step system keeps. Assumes nothing.
+-- The laws that every step system keeps.
 use Rattle.std.specs.Prelude.{◌≡◌, ℕ, ◌≤◌, ◌↔◌, length, Some, None, Ok, IsTrue, IsFalse}
 use Rattle.steps.specs.declared.limits.TheConstants.{STATE_LIMIT, STEP_LIMIT}
 use Rattle.steps.specs.Meaning.{Str, Transitions, Independence}

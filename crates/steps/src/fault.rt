@@ -18,8 +18,8 @@ pub struct Refusal {
 pub enum SystemFault {
     // No state, or longer than a state may be: the first byte that fits none.
     NoState(u16),
-    // No step, or longer than a step may be: the first byte that fits none, or the first improper
-    // part.
+    // No step, or longer than a step may be: the place of the byte that fits no step, else of the
+    // first improper part.
     NoStep(u16),
     // The step is not possible in the state: the first part that does not fit.
     Impossible(u16),

@@ -9,7 +9,7 @@ use Rattle.ccs.specs.First.{First}
 use Rattle.ccs.specs.Improper.{ImproperAt}
 use Rattle.ccs.specs.System.{terms_transitions, terms_independence}
 
--- what is left of the first after the second
+-- what a step becomes behind another
 abbrev pub left : Str → Str → Option Str
 left = terms_independence.left
 

@@ -159,18 +159,6 @@ module _ (ds : List Term) where
   from_nodes call_node (under_node g) k = refl
 
   module _ (n : ℕ) (count : length ds ≡ n) (a x : Str) where
-    -- a string that is no term
-    pub follow_none : TermNode n None (unfolded ds a) → (k : Sink) → Err 0 ≡ onto_term k (followed ds a x)
-    unfolding onto_term
-    follow_none h k = go (read_term (length ds) a) h
-      where
-        none : {p : Term} → TermNode n None (Ok p) → ⊥
-        none h = elim h [ ]
-
-        go : (r : Result Term ℕ) → TermNode n None (elim r as (λ _. Result Term ℕ) [ Ok p ↦ Ok (unfold_call (body_of ds) p) | Err k ↦ Err k ]) → Err 0 ≡ onto_term k (followed_by ds r (read_proof x))
-        go (Ok p) h = absurd (none h)
-        go (Err j) h = refl
-
     -- strings that are read as these nodes
     pub follow_is : {o : NodeOfTerm} {m : Option NodeOfProof} → TermNode n (Some o) (unfolded ds a) → ProofNode m (read_proof x) → (k : Sink) → follow_onto (Some o) m k ≡ onto_term k (followed ds a x)
     unfolding onto_term

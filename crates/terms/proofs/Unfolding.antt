@@ -1,5 +1,5 @@
 -- The term that a call stands for. Assumes nothing.
-use Rattle.std.proofs.Common.{◌≡◌, ℕ, zero, suc, ◌-◌, ◌≤◌, true, not, List, [], ◌∷◌, ◌++◌, length, map, replicate, is_some, Some, None, Ok, Err, Option, Result, slice_index_or, sym, refl, ap, ◌∙◌, subst}
+use Rattle.std.proofs.Common.{◌≡◌, ℕ, zero, suc, ◌-◌, ◌≤◌, true, not, List, [], ◌∷◌, ◌++◌, length, map, replicate, is_ok, is_some, Some, None, Ok, Err, Option, Result, slice_index_or, sym, refl, ap, ◌∙◌, subst}
 use Rattle.std.specs.List.{slice_get}
 use Rattle.steps.specs.Meaning.{Str}
 use Rattle.ccs.specs.Syntax.{Term}
@@ -10,7 +10,7 @@ use Rattle.ccs.specs.System.{body_of}
 use Rattle.ccs.proofs.Cases.{both_of}
 use Rattle.nodes.specs.Nodes.{NodeOfTerm, TermNode, called_of}
 use Rattle.nodes.specs.Nodes.NodeOfTerm.{Nil}
-use Rattle.nodes.specs.Nodes.TermNode.{no_term, nil_node, prefix_node, par_node, sum_node, restrict_node, call_node}
+use Rattle.nodes.specs.Nodes.TermNode.{nil_node, prefix_node, par_node, sum_node, restrict_node, call_node}
 use Rattle.terms.specs.Bodies.{body_fault, sound_bodies_of, body_in, terms_in}
 use Rattle.terms.specs.Sound.{length_terms, is_body, body_is}
 use Rattle.terms.specs.Follow.{unfolded}
@@ -40,17 +40,15 @@ sound_at n [] d s e h = absurd (cc h)
 sound_at n (r ∷ ss) zero s e h = let same : s ≡ r = cc h in ap (λ s. not (is_some (body_fault n s))) same ∙ (both_of _ _ e).0
 sound_at n (r ∷ ss) (suc d) s e h = sound_at n ss d s (both_of (not (is_some (body_fault n r))) (sound_bodies_of n ss) e).1 h
 
+-- the body of a definition is a term
+pub body_read : (n : ℕ) (ss : List Str) (d : ℕ) (s : Str) → sound_bodies_of n ss ≡ true → Some s ≡ slice_get ss d → is_ok (read_term n s) ≡ true
+body_read n ss d s e h = ap is_ok (is_body n s (sound_at n ss d s e h)).1
+
 module _ (n : ℕ) (ss : List Str) (few : length ss ≤ n) (a : Str) where
   is_unfolded : unfold_in (terms_in n ss) (read_term n a) ≡ unfolded (terms_in n ss) a
   is_unfolded = ap (λ m. unfold_in (terms_in n ss) (read_term m a)) (sym (length_terms n ss few))
 
-  -- a term that is none, and one that is no call
-  pub not_unfolded : TermNode n None (read_term n a) → TermNode n None (unfolded (terms_in n ss) a)
-  not_unfolded h = subst (TermNode n None) is_unfolded (go h)
-    where
-      go : {r : Result Term ℕ} → TermNode n None r → TermNode n None (unfold_in (terms_in n ss) r)
-      go no_term = no_term
-
+  -- a term that is no call
   pub own_node : {o : NodeOfTerm} → TermNode n (Some o) (read_term n a) → None ≡ called_of o → TermNode n (Some o) (unfolded (terms_in n ss) a)
   own_node {o = o} h e = subst (TermNode n (Some o)) is_unfolded (go h e)
     where

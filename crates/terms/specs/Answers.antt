@@ -4,7 +4,7 @@ use Rattle.steps.specs.Meaning.{Str}
 use Rattle.steps.specs.declared.fault.MaskFault.{MaskFault}
 use Rattle.steps.specs.declared.fault.MaskFault.TheVariants.{Inner}
 use Rattle.steps.specs.declared.fault.SystemFault.{SystemFault}
-use Rattle.steps.specs.declared.fault.SystemFault.TheVariants.{NoState, NoStep, StateTooLong, StepTooLong}
+use Rattle.steps.specs.declared.fault.SystemFault.TheVariants.{NoState, NoStep, StateTooLong}
 use Rattle.ccs.specs.Syntax.{Term}
 use Rattle.ccs.specs.System.{terms_transitions}
 use Rattle.residuals.specs.declared.sink.Sink.{Sink}
@@ -21,9 +21,10 @@ state_checked ds s = checked NoState ((terms_transitions ds).bad_state s)
 abbrev pub step_checked : Str → Result (Unit {0}) SystemFault
 step_checked x = checked NoStep ((terms_transitions []).bad_step x)
 
-abbrev pub state_put : Sink → ℕ → Result Str MaskFault
-state_put s n = elim (put_answer s 256 n) [ Ok w ↦ Ok w | Err k ↦ Err (Inner (StateTooLong k)) ]
+-- a state that was written, or that it is too long
+abbrev pub state_or_length : Result Str ℕ → Result Str MaskFault
+state_or_length (Ok w) = Ok w
+state_or_length (Err needed) = Err (Inner (StateTooLong needed))
 
-abbrev pub step_put : Option Sink → ℕ → Result (Option Str) MaskFault
-step_put None n = Ok None
-step_put (Some s) n = elim (put_answer s 64 n) [ Ok w ↦ Ok (Some w) | Err k ↦ Err (Inner (StepTooLong k)) ]
+abbrev pub state_put : Sink → ℕ → Result Str MaskFault
+state_put s n = state_or_length (put_answer s n)

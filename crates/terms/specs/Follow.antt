@@ -27,12 +27,17 @@ unfoldable pub onto_term : Sink → Result Term ℕ → Result Sink ℕ
 onto_term k (Ok p) = Ok (poured k (term_bytes p))
 onto_term k (Err j) = Err j
 
+-- what is in a sink that was lent, or the place that is told
+abbrev pub outcome : Result (Unit {0}) ℕ → Sink → Result Sink ℕ
+outcome (Ok tt) k = Ok k
+outcome (Err j) k = Err j
+
 -- a misfit is so many bytes further on
 unfoldable pub further : ℕ → Result Sink ℕ → Result Sink ℕ
 further n (Ok k) = Ok k
 further n (Err j) = Err (n + j)
 
 -- a place is within a string of this length, if one is told
-abbrev pub WithinStep : Result Sink ℕ → ℕ → Type 0
-WithinStep (Ok k) n = Unit {0}
+abbrev pub WithinStep : Result (Unit {0}) ℕ → ℕ → Type 0
+WithinStep (Ok tt) n = Unit {0}
 WithinStep (Err j) n = j ≤ n

@@ -1,11 +1,11 @@
 // The step system of terms over some definitions: its states are terms, its steps proper proofs.
 ghost use Rattle.std.specs.Prelude.{◌≡◌, length};
-ghost use Rattle.byte_strings.specs.Buffer.{count, buffer_after, count_some, buffer_after_some};
+ghost use Rattle.byte_strings.specs.Buffer.{count, buffer_after};
 ghost use Rattle.ccs.specs.System.{terms_transitions, terms_independence};
 ghost use Rattle.ccs.proofs.System.{terms_laws};
 ghost use Rattle.terms.specs.Contents.{terms_of};
 ghost use Rattle.terms.specs.Sound.{terms_sound};
-ghost use Rattle.terms.specs.Answers.{step_checked, state_put, step_put};
+ghost use Rattle.terms.specs.Answers.{step_checked, state_put};
 
 use crate::place::past;
 use crate::terms::Terms;
@@ -15,6 +15,7 @@ use residuals::label::label;
 use residuals::origin::origin;
 use residuals::residual::residual;
 use residuals::sink::Sink;
+use steps::answer::put_step_if;
 use steps::fault::{MaskFault, SystemFault};
 use steps::label::Label;
 use steps::system::StepSystem;
@@ -38,23 +39,9 @@ fn put_state(state: &Sink, out: &mut [u8]) -> Result<usize, MaskFault>
     ensures answer { result ≡ count (state_put state.now (length out.old)) }
     ensures buffer { out.new ≡ buffer_after (state_put state.now (length out.old)) out.old }
 {
-    match state.put(256, out) {
+    match state.put(out) {
         Ok(len) => Ok(len),
         Err(needed) => Err(MaskFault::Inner(SystemFault::StateTooLong(needed))),
-    }
-}
-
-// The same of a step that is answered, or that there is none.
-fn put_step(step: Option<Sink>, out: &mut [u8]) -> Result<Option<usize>, MaskFault>
-    ensures answer { result ≡ count_some (step_put step (length out.old)) }
-    ensures buffer { out.new ≡ buffer_after_some (step_put step (length out.old)) out.old }
-{
-    let Some(step) = step else {
-        return Ok(None);
-    };
-    match step.put(64, out) {
-        Ok(len) => Ok(Some(len)),
-        Err(needed) => Err(MaskFault::Inner(SystemFault::StepTooLong(needed))),
     }
 }
 
@@ -83,8 +70,9 @@ impl StepSystem for Terms {
     fn next(&self, state: &[u8], step: &[u8], out: &mut [u8]) -> Result<usize, MaskFault> {
         check_step(step)?;
         self.check_state(state)?;
-        match self.follow(state, step, Sink::new()) {
-            Ok(next) => put_state(&next, out),
+        let mut next = Sink::new();
+        match self.follow(state, step, &mut next) {
+            Ok(()) => put_state(&next, out),
             // It fits, so no `try_from`: it is within a step.
             Err(place) => Err(MaskFault::Inner(SystemFault::Impossible(place as u16))),
         }
@@ -93,18 +81,22 @@ impl StepSystem for Terms {
     fn independent(&self, x: &[u8], y: &[u8]) -> Result<bool, MaskFault> {
         check_step(x)?;
         check_step(y)?;
-        Ok(residual(x, y, Sink::new()).is_some())
+        Ok(residual(x, y, &mut Sink::new()).is_some())
     }
 
     fn residual(&self, x: &[u8], y: &[u8], out: &mut [u8]) -> Result<Option<usize>, MaskFault> {
         check_step(x)?;
         check_step(y)?;
-        put_step(residual(x, y, Sink::new()), out)
+        let mut left = Sink::new();
+        let answered = residual(x, y, &mut left).is_some();
+        put_step_if(answered, left.text(), out)
     }
 
     fn back(&self, x: &[u8], z: &[u8], out: &mut [u8]) -> Result<Option<usize>, MaskFault> {
         check_step(x)?;
         check_step(z)?;
-        put_step(origin(x, z, Sink::new()), out)
+        let mut step = Sink::new();
+        let answered = origin(x, z, &mut step).is_some();
+        put_step_if(answered, step.text(), out)
     }
 }

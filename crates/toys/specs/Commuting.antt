@@ -1,5 +1,5 @@
 -- Two steps are independent exactly if they are different steps, and a step stays itself after
--- another. Assumes nothing.
+-- another.
 use Rattle.std.specs.Prelude.{ℕ, Bool, not, Some, None, Ok, Err, Option, Result, ◌==◌, if◌then◌else◌}
 use Rattle.steps.specs.Meaning.{Str, Independence}
 use Rattle.toys.specs.Sum.{read_byte}

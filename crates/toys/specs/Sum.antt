@@ -1,5 +1,5 @@
 -- Bytes that add up: a state is a byte, a step is a byte, and a step leads to their sum, counted
--- round past 255. Assumes nothing.
+-- round past 255.
 use Rattle.std.specs.Prelude.{ℕ, ◌+◌, ◌%◌, Bool, false, [], ◌∷◌, is_ok, Some, None, Ok, Err, Option, Result, nat_lt, if◌then◌else◌}
 use Rattle.std.specs.Result.{result_err}
 use Rattle.steps.specs.declared.fault.MaskFault.{MaskFault}

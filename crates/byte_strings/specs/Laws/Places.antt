@@ -1,4 +1,4 @@
--- The places of a list, of which the first hold its items and the others a blank. Assumes nothing.
+-- The places of a list, of which the first hold its items and the others a blank.
 use Rattle.std.specs.Prelude.{◌≡◌, ℕ, ◌-◌, ◌≤◌, List, ◌++◌, length, take, drop, replicate}
 use Rattle.std.proofs.Common.{sym, ap, ◌∙◌, arith}
 use Rattle.std.proofs.lemmas.List.{length-take-le, take-append-drop}

@@ -32,17 +32,20 @@ odd_sum x d a b e = omega arith
 pub bit_of_xor : (a b k : ℕ) → bit (bit_xor a b) k ≡ (bit a k + bit b k) % 2
 bit_of_xor a b k =
     ap (λ (n : ℕ). n % 2) (xor_shr a b k)
-    ∙ odd_sum (bit_xor (a / 2 ^ k) (b / 2 ^ k)) (bit_and (a / 2 ^ k) (b / 2 ^ k)) (a / 2 ^ k) (b / 2 ^ k) (xor_add_and (a / 2 ^ k) (b / 2 ^ k))
+    ∙ odd_sum (bit_xor (a / 2 ^ k) (b / 2 ^ k)) (bit_and (a / 2 ^ k) (b / 2 ^ k)) (a / 2 ^ k)
+    (b / 2 ^ k) (xor_add_and (a / 2 ^ k) (b / 2 ^ k))
 
-bit_half : (a k : ℕ) → bit (a / 2) k ≡ bit a (suc k)
+pub bit_half : (a k : ℕ) → bit (a / 2) k ≡ bit a (suc k)
 bit_half a k = ap (λ (n : ℕ). n % 2) (shr-shr a 1 k ∙ ap (λ (j : ℕ). a / 2 ^ j) (one-add k))
 
-half_below : (n a : ℕ) → a < 2 ^ suc n → a / 2 < 2 ^ n
+pub half_below : (n a : ℕ) → a < 2 ^ suc n → a / 2 < 2 ^ n
 half_below n a h = omega (arith, pow-suc 2 n)
 
 -- two numbers of n bits are equal where their bits are
 pub same_bits : (n a b : ℕ) → a < 2 ^ n → b < 2 ^ n → ((k : ℕ) → k < n → bit a k ≡ bit b k) → a ≡ b
 same_bits zero a b p q h = omega arith
 same_bits (suc n) a b p q h =
-    let halves : a / 2 ≡ b / 2 = same_bits n (a / 2) (b / 2) (half_below n a p) (half_below n b q) (λ k l. bit_half a k ∙ h (suc k) (omega arith) ∙ sym (bit_half b k)) in
+    let below : (k : ℕ) → k < n → bit (a / 2) k ≡ bit (b / 2) k =
+    λ k l. bit_half a k ∙ h (suc k) (omega arith) ∙ sym (bit_half b k) in
+    let halves = same_bits n (a / 2) (b / 2) (half_below n a p) (half_below n b q) below in
     omega (arith, h 0 (omega arith))

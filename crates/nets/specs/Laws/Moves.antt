@@ -23,7 +23,10 @@ pub record Sound (e : Event) : Type 0 where
   pub high : e.after < 2 ^ 64
   pub some : 0 < e.before
 
-no_fault_filled : (a b c : Bool) (f g h : EventFault) → IsTrue (not (is_some (if a then (if b then (if c then None else Some f) else Some g) else Some h))) → IsTrue b
+no_fault_filled : (a b c : Bool) (f g h : EventFault)
+    → IsTrue (not
+    (is_some (if a then (if b then (if c then None else Some f) else Some g) else Some h)))
+    → IsTrue b
 no_fault_filled true true c f g h e = refl
 no_fault_filled true false c f g h e = e
 no_fault_filled false b c f g h e = absurd (false≢true e)
@@ -32,26 +35,37 @@ sound_from : (e : Event) → IsTrue (sound_event e) → Sound e
 sound_from e h =
     let parts = and_parts (is_narrow e) (not (is_some (event_fault e))) h in
     let widths = and_parts (nat_lt e.before (2 ^ 64)) (nat_lt e.after (2 ^ 64)) parts.0 in
-    let sets = no_fault_filled (is_action e.action) (has_conditions e) (shares_none e) _ _ _ parts.1 in
+    let sets = no_fault_filled (is_action e.action) (has_conditions e)
+    (shares_none e) _ _ _ parts.1 in
     let before = (and_parts (not (e.before == 0)) (not (e.after == 0)) sets).0 in
     let apart0 : e.before ≡ 0 → ⊥ = eqb-false e.before 0 (not-true (e.before == 0) before) in
-    record { low = ltb-true e.before (2 ^ 64) widths.0; high = ltb-true e.after (2 ^ 64) widths.1; some = omega arith }
+    record {
+      low = ltb-true e.before (2 ^ 64) widths.0;
+      high = ltb-true e.after (2 ^ 64) widths.1;
+      some = omega arith;
+    }
 
-nth_sound : (es : List Event) (k : ℕ) (e : Event) → IsTrue (all_sound es) → slice_get es k ≡ Some e → Sound e
-nth_sound [] k e h n = absurd (none_some n)
-nth_sound (f ∷ es) zero e h n = subst Sound (some_same n) (sound_from f (and_parts (sound_event f) (all_sound es) h).0)
-nth_sound (f ∷ es) (suc k) e h n = nth_sound es k e (and_parts (sound_event f) (all_sound es) h).1 n
+pub sound_at : (es : List Event) (k : ℕ) (e : Event) → IsTrue (all_sound es) →
+    slice_get es k ≡ Some e → IsTrue (sound_event e)
+sound_at [] k e h n = absurd (none_some n)
+sound_at (f ∷ es) zero e h n =
+    subst (λ (g : Event). IsTrue (sound_event g)) (some_same n)
+    (and_parts (sound_event f) (all_sound es) h).0
+sound_at (f ∷ es) (suc k) e h n = sound_at es k e (and_parts (sound_event f) (all_sound es) h).1 n
 
 -- what is known of a string that names an event
 pub record Named (x : Str) (e : Event) : Type 0 where
   pub one : length x ≡ 1
   pub sound : Sound e
 
-pub read_named : (es : List Event) → IsTrue (all_sound es) → (x : Str) (e : Event) → read_event es x ≡ Ok e → Named x e
+pub read_named : (es : List Event) → IsTrue (all_sound es) → (x : Str) (e : Event)
+    → read_event es x ≡ Ok e → Named x e
 read_named es h [] e r = absurd (err_ok r)
-read_named es h (k ∷ x) e r = found_named (slice_get es k) x r (nth_sound es k e h)
+read_named es h (k ∷ x) e r =
+    found_named (slice_get es k) x r (λ n. sound_from e (sound_at es k e h n))
   where
-    found_named : (o : Option Event) (x : Str) {k : ℕ} {e : Event} → lone_event o x ≡ Ok e → (o ≡ Some e → Sound e) → Named (k ∷ x) e
+    found_named : (o : Option Event) (x : Str) {k : ℕ} {e : Event} → lone_event o x ≡ Ok e
+        → (o ≡ Some e → Sound e) → Named (k ∷ x) e
     found_named None x r s = absurd (err_ok r)
     found_named (Some f) [] r s = record { one = refl; sound = s (cc) }
     found_named (Some f) (b ∷ x) r s = absurd (err_ok r)
@@ -62,29 +76,43 @@ touched_narrow e s = or_lt 64 e.before e.after s.low s.high
 -- an event is at some condition, so it is not independent of itself
 pub never_apart : (e : Event) → Sound e → IsFalse (apart_from e e)
 never_apart e s =
-    ne_eqb (bit_and (conditions e) (conditions e)) 0 (λ z. omega (arith, and_self (conditions e), or_add_and e.before e.after, and_le_r e.before e.after, s.some))
+    ne_eqb (bit_and (conditions e) (conditions e)) 0
+    (λ z. omega (
+      arith,
+      and_self (conditions e),
+      or_add_and e.before e.after,
+      and_le_r e.before e.after,
+      s.some,
+    ))
 
 pub apart_comm : (e f : Event) → apart_from e f ≡ apart_from f e
 apart_comm e f = ap (λ (n : ℕ). nat_eq n 0) (and_comm (conditions e) (conditions f))
 
 -- changing conditions outside a set u does not change which of a part b of it hold
-one_untouched : (m t b u : ℕ) → m < 2 → t < 2 → b ≤ u → u < 2 → min t u ≡ 0 → min ((m + t) % 2) b ≡ min m b
+one_untouched : (m t b u : ℕ) → m < 2 → t < 2 → b ≤ u → u < 2 → min t u ≡ 0
+    → min ((m + t) % 2) b ≡ min m b
 one_untouched m t b u m2 t2 part u2 none = grind arith
 
-untouched : (m t b u : ℕ) → b < 2 ^ 64 → ((c : ℕ) → bit b c ≤ bit u c) → bit_and t u ≡ 0 → bit_and (bit_xor m t) b ≡ bit_and m b
+untouched : (m t b u : ℕ) → b < 2 ^ 64 → ((c : ℕ) → bit b c ≤ bit u c) → bit_and t u ≡ 0
+    → bit_and (bit_xor m t) b ≡ bit_and m b
 untouched m t b u low part none =
-    same_bits 64 (bit_and (bit_xor m t) b) (bit_and m b) (omega (arith, and_le_r (bit_xor m t) b)) (omega (arith, and_le_r m b))
+    same_bits 64 (bit_and (bit_xor m t) b) (bit_and m b) (omega (arith, and_le_r (bit_xor m t) b))
+    (omega (arith, and_le_r m b))
     (λ c _. bit_of_and (bit_xor m t) b c ∙ ap (λ (n : ℕ). min n (bit b c)) (bit_of_xor m t c)
-    ∙ one_untouched (bit m c) (bit t c) (bit b c) (bit u c) (omega arith) (omega arith) (part c) (omega arith) (sym (bit_of_and t u c) ∙ ap (λ (n : ℕ). bit n c) none ∙ bit_zero c)
+    ∙ one_untouched (bit m c) (bit t c) (bit b c) (bit u c) (omega arith) (omega arith) (part c)
+    (omega arith) (sym (bit_of_and t u c) ∙ ap (λ (n : ℕ). bit n c) none ∙ bit_zero c)
     ∙ sym (bit_of_and m b c))
 
 -- an event is possible after an independent one exactly if it was before
-pub still_possible : (e f : Event) (m : ℕ) → Sound f → IsTrue (apart_from e f) → is_ready f (marking_after e m) ≡ is_ready f m
+pub still_possible : (e f : Event) (m : ℕ) → Sound f → IsTrue (apart_from e f)
+    → is_ready f (marking_after e m) ≡ is_ready f m
 still_possible e f m s a =
     let none = eqb-true (bit_and (conditions e) (conditions f)) 0 a in
     ap₂ (λ (b n : ℕ). (b == f.before) && n == 0)
-    (untouched m (conditions e) f.before (conditions f) s.low (λ c. omega (arith, bit_of_or f.before f.after c)) none)
-    (untouched m (conditions e) f.after (conditions f) s.high (λ c. omega (arith, bit_of_or f.before f.after c)) none)
+    (untouched m (conditions e) f.before (conditions f) s.low
+    (λ c. omega (arith, bit_of_or f.before f.after c)) none)
+    (untouched m (conditions e) f.after (conditions f) s.high
+    (λ c. omega (arith, bit_of_or f.before f.after c)) none)
 
 -- an event takes a marking to a state
 pub record Steps (e : Event) (m : ℕ) (b : Str) : Type 0 where
@@ -98,7 +126,8 @@ steps e m b h =
     (λ p. absurd (err_ok (sym (ap spelled_state (fired_impossible e m p)) ∙ h)))
     (cases_Bool (is_ready e m))
 
-pub moved_as : (e : Event) (m : ℕ) (b : Str) {p : Result Event ℕ} {r : Result ℕ ℕ} → p ≡ Ok e → r ≡ Ok m → next_state p r ≡ Ok b → Steps e m b
+pub moved_as : (e : Event) (m : ℕ) (b : Str) {p : Result Event ℕ} {r : Result ℕ ℕ} → p ≡ Ok e
+    → r ≡ Ok m → next_state p r ≡ Ok b → Steps e m b
 moved_as e m b by from h = steps e m b (sym (ap₂ next_state by from) ∙ h)
 
 -- what was read for a move
@@ -113,7 +142,8 @@ moved_from (Ok e) (Ok m) b h = record { event = e; marking = m; by = refl; from 
 moved_from (Ok e) (Err q) b h = absurd (err_ok h)
 moved_from (Err q) r b h = absurd (err_ok h)
 
-pub moves : (e : Event) (m : ℕ) {p : Result Event ℕ} {r : Result ℕ ℕ} → p ≡ Ok e → r ≡ Ok m → IsTrue (is_ready e m) → next_state p r ≡ Ok (bytes_of (marking_after e m))
+pub moves : (e : Event) (m : ℕ) {p : Result Event ℕ} {r : Result ℕ ℕ} → p ≡ Ok e → r ≡ Ok m
+    → IsTrue (is_ready e m) → next_state p r ≡ Ok (bytes_of (marking_after e m))
 moves e m p r h = ap₂ next_state p r ∙ ap spelled_state (fired_possible e m h)
 
 -- what is left of an event, where something is: itself, and the two events are independent
@@ -128,7 +158,14 @@ pub record Left (p q : Result Event ℕ) (x z : Str) : Type 0 where
 pub left_from : (p q : Result Event ℕ) (x z : Str) → rest_of x p q ≡ Some z → Left p q x z
 left_from (Ok e) (Ok f) x z h =
     ⊎_elim
-    (λ a. record { event = e; other = f; first = refl; second = refl; free = a; same = some_same (sym (cond-true (apart_from e f) (Some x) None a) ∙ h) })
+    (λ a. record {
+      event = e;
+      other = f;
+      first = refl;
+      second = refl;
+      free = a;
+      same = some_same (sym (cond-true (apart_from e f) (Some x) None a) ∙ h);
+    })
     (λ a. absurd (none_some (sym (cond-false (apart_from e f) (Some x) None a) ∙ h)))
     (cases_Bool (apart_from e f))
 left_from (Ok e) (Err k) x z h = absurd (none_some h)

@@ -1,9 +1,9 @@
 // What definitions hold: making them, giving one its body, and the node that a term moves by.
-ghost use Rattle.std.specs.Prelude.{◌≡◌, ◌≤◌, [], min, IfSome};
+ghost use Rattle.std.specs.Prelude.{◌≡◌, ◌≤◌, [], min, Some, is_ok, IsTrue, IfSome};
 ghost use Rattle.std.specs.List.{slice_get};
 ghost use Rattle.ccs.specs.Reading.{read_term};
 ghost use Rattle.byte_strings.specs.Lent.{part_view};
-ghost use Rattle.nodes.specs.Nodes.{TermNode, term_view};
+ghost use Rattle.nodes.specs.Nodes.{TermNode, TermsRead, node_of_term};
 ghost use Rattle.terms.specs.Answers.{state_checked};
 ghost use Rattle.terms.specs.Bodies.{definition_limit, body_fault, add_answer, bodies_after, body_limit, place_of, WithinBody};
 ghost use Rattle.terms.specs.BodyLaws.{BodiesTold};
@@ -14,6 +14,7 @@ use crate::place::past;
 use crate::terms::{DEFINITION_LIMIT, Terms};
 use byte_strings::held::Held;
 use byte_strings::list::FixedList;
+use ccs::node_bytes::CALL;
 use nodes::term::Term;
 use steps::fault::SystemFault;
 
@@ -83,19 +84,19 @@ impl Terms {
     }
 
     // The node of a term that is no call: its own, or that of the body that it calls.
-    pub(crate) fn unfolded<'a>(&'a self, term: &'a [u8]) -> Option<Term<'a>>
-        ensures { TermNode self.now.count (term_view result) (unfolded (terms_of self.now) term.now) }
+    pub(crate) fn unfolded<'a>(&'a self, term: &'a [u8]) -> Term<'a>
+        requires { IsTrue (is_ok (read_term self.now.count term.now)) }
+        ensures node { TermNode self.now.count (Some (node_of_term result)) (unfolded (terms_of self.now) term.now) }
+        ensures parts { TermsRead self.now.count (node_of_term result) }
     {
-        let Some(node) = Term::read(self.count, term) else {
-            return None;
-        };
+        let node = Term::of(self.count, term);
         let Some(definition) = node.called() else {
-            return Some(node);
+            return node;
         };
         let Some(body) = self.body(definition) else {
-            return Some(Term::Nil);
+            return Term::Nil;
         };
-        Term::read(self.count, body)
+        Term::of(self.count, body)
     }
 
     // The body of a definition, if it has come.
@@ -112,7 +113,7 @@ fn body_fault(count: u8, body: &[u8]) -> Option<u16>
     ensures place { result ≡ body_fault count body.now }
     ensures within { IfSome result (λ k. k ≤ body_limit) }
 {
-    if let [0x05, ..] = body {
+    if let [CALL, ..] = body {
         return Some(0);
     }
     past(255, body, Term::fault(count, body))

@@ -1,6 +1,5 @@
 use Rattle.std.proofs.Common.{◌≡◌, ◌+◌, ◌≤◌, drop}
-use Rattle.nodes.specs.Whole.{whole, start}
-use Rattle.nodes.proofs.Whole.{shifted}
+use Rattle.nodes.specs.Whole.{whole, start, shifted}
 use Rattle.nodes.proofs.scan.first.Given as goal
 
 abbrev pub invariant-loop-i : goal.invariant-loop-i

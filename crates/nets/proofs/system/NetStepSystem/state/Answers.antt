@@ -10,7 +10,8 @@ pub returns-in_err-read-clause-markings : goal.returns-in_err-read-clause-markin
 returns-in_err-read-clause-markings c = state_markings (events_of c.args.self.now) c.args.state.now (search rules)
 
 pub returns-in_err-read-clause-place : goal.returns-in_err-read-clause-place
-returns-in_err-read-clause-place c = state_place (events_of c.args.self.now) c.args.state.now (search rules) (bytes_at c.args.state.now (λ i. omega (arith, c.type_inv.state i)))
+returns-in_err-read-clause-place c = state_place (events_of c.args.self.now) c.args.state.now (search rules)
+    (bytes_at c.args.state.now (λ i. omega (arith, c.type_inv.state i)))
 
 pub returns-clause-markings : goal.returns-clause-markings
 returns-clause-markings c =

@@ -1,17 +1,19 @@
 use Rattle.std.proofs.Common.{length, ap, ◌∙◌}
 use Rattle.byte_strings.specs.Buffer.{count_some, buffer_after_some}
-use Rattle.residuals.specs.Sink.{onto}
-use Rattle.residuals.specs.Steps.{origin_of}
 use Rattle.terms.specs.Contents.{terms_of}
 use Rattle.terms.proofs.Answered.{back_told_is}
 use Rattle.terms.proofs.system.TermsStepSystem.back.Goals as goal
 
 pub returns-clause-answer : goal.returns-clause-answer
 returns-clause-answer c =
-    let told = back_told_is (terms_of c.args.self.now) c.args.x.now c.args.z.now (length c.args.out.now) c.origin.result c.in_ok-check_step.ensures c.in_ok-check_step-2.ensures (c.origin.ensures ∙ ap (λ s. onto s (origin_of c.args.x.now c.args.z.now)) c.new.ensures) in
-    c.put_step.ensures.answer ∙ ap count_some told
+    let told =
+        back_told_is (terms_of c.args.self.now) c.args.x.now c.args.z.now (length c.args.out.now) c.origin.result c.origin.new.sink c.new-step.result c.is_some-answered.result c.text.result.now
+        c.in_ok-check_step.ensures c.in_ok-check_step-2.ensures c.new-step.ensures c.origin.ensures c.is_some-answered.ensures c.text.ensures in
+    c.put_step_if.ensures.answer ∙ ap count_some told
 
 pub returns-clause-buffer : goal.returns-clause-buffer
 returns-clause-buffer c =
-    let told = back_told_is (terms_of c.args.self.now) c.args.x.now c.args.z.now (length c.args.out.now) c.origin.result c.in_ok-check_step.ensures c.in_ok-check_step-2.ensures (c.origin.ensures ∙ ap (λ s. onto s (origin_of c.args.x.now c.args.z.now)) c.new.ensures) in
-    c.put_step.ensures.buffer ∙ ap (λ r. buffer_after_some r c.args.out.now) told
+    let told =
+        back_told_is (terms_of c.args.self.now) c.args.x.now c.args.z.now (length c.args.out.now) c.origin.result c.origin.new.sink c.new-step.result c.is_some-answered.result c.text.result.now
+        c.in_ok-check_step.ensures c.in_ok-check_step-2.ensures c.new-step.ensures c.origin.ensures c.is_some-answered.ensures c.text.ensures in
+    c.put_step_if.ensures.buffer ∙ ap (λ r. buffer_after_some r c.args.out.now) told
