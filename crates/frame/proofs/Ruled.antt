@@ -1,5 +1,5 @@
 -- The rules of a setup: what is taken is in order, and what is refused stands at the first byte that breaks one.
-use Rattle.std.proofs.Common.{◌≡◌, ℕ, ◌+◌, ◌*◌, ◌<◌, ◌≤◌, Bool, true, false, cond, not, ◌⊎◌, inl, inr, is_some, nat_eq, nat_lt, leb, List, [], ◌∷◌, ◌++◌, length, drop, Some, None, Ok, Err, Option, Result, sym, refl, ap, ◌∙◌, subst, arith}
+use Rattle.std.proofs.Common.{◌≡◌, ℕ, ◌+◌, ◌*◌, ◌<◌, ◌≤◌, Bool, true, false, cond, not, ◌&&◌, ◌⊎◌, inl, inr, is_some, nat_eq, nat_lt, leb, List, [], ◌∷◌, ◌++◌, length, drop, Some, None, Ok, Err, Option, Result, sym, refl, ap, ◌∙◌, subst, arith}
 use Rattle.std.proofs.lemmas.List.{append_assoc, append-nil, length-append}
 use Rattle.std.proofs.lemmas.List.Elements.{Contains-append_left, Contains-append_right, Contains-append_cases, Contains-push, Contains-push_cases}
 use Rattle.std.proofs.lemmas.Option.{none-some}
@@ -13,7 +13,7 @@ use Rattle.actions.specs.Action.{is_name}
 use Rattle.actions.specs.Pairs.{to_of, sound_pairs, beside_fault, pair_fault}
 use Rattle.actions.specs.Names.{all_names, name_fault}
 use Rattle.actions.proofs.Listed.{all_names_push}
-use Rattle.actions.proofs.Paired.{sound_from, sound_to, sound_once, sound_rest, sound_push, listed, room}
+use Rattle.actions.proofs.Paired.{sound_push, listed, room}
 use Rattle.frame.specs.declared.fault.FrameFault.{FrameFault}
 use Rattle.frame.specs.declared.fault.FrameFault.TheVariants.{Malformed, BadSetup}
 use Rattle.frame.specs.Frames.{PairsAllowed, NamesAllowed, pair_bytes, pair_limit, name_limit, pair_place, names_place, name_place}
@@ -190,22 +190,37 @@ not-true : (b : Bool) → not b ≡ true → b ≡ false
 not-true true h = cc
 not-true false h = refl
 
+-- what holds of the first of sound pairs, and of the others
+record FirstSound (p : Pair) (ps : List Pair) : Type 0 where
+  from : is_name p.from ≡ true
+  to : is_name p.to ≡ true
+  once : not (is_some (to_of ps p.from)) ≡ true
+  rest : sound_pairs ps ≡ true
+
+first_sound : (p : Pair) (ps : List Pair) → sound_pairs (p ∷ ps) ≡ true → FirstSound p ps
+first_sound p ps h =
+    let (names, more) =
+    and_parts (is_name p.from && is_name p.to) (not (is_some (to_of ps p.from)) && sound_pairs ps) h in
+    let (from, to) = and_parts (is_name p.from) (is_name p.to) names in
+    let (once, rest) = and_parts (not (is_some (to_of ps p.from))) (sound_pairs ps) more in
+    record { from = from; to = to; once = once; rest = rest }
+
 sound_in : (front : List Pair) (p : Pair) (back : List Pair) → sound_pairs (front ++ p ∷ back) ≡ true
     → (is_name p.from ≡ true) × (is_name p.to ≡ true) × (Replaces front p.from → ⊥)
-sound_in [] p back sound = (sound_from p back sound, sound_to p back sound, none)
+sound_in [] p back sound = ((first_sound p back sound).from, (first_sound p back sound).to, none)
   where
     none : Replaces [] p.from → ⊥
     none (q, (k, below, at), e) = absurd (omega arith)
 sound_in (q ∷ front) p back sound =
-    let (from, to, new) = sound_in front p back (sound_rest q (front ++ p ∷ back) sound) in
+    let (from, to, new) = sound_in front p back (first_sound q (front ++ p ∷ back) sound).rest in
     (from, to, none new)
   where
     found : to_of (front ++ p ∷ back) p.from ≡ Some p.to
-    found = listed (front ++ p ∷ back) p (sound_rest q (front ++ p ∷ back) sound)
+    found = listed (front ++ p ∷ back) p (first_sound q (front ++ p ∷ back) sound).rest
         (Contains-append_right front (p ∷ back) p (Contains-append_left (p ∷ []) back p (Contains-push [] p)))
 
     once : is_some (to_of (front ++ p ∷ back) q.from) ≡ false
-    once = not-true (is_some (to_of (front ++ p ∷ back) q.from)) (sound_once q (front ++ p ∷ back) sound)
+    once = not-true (is_some (to_of (front ++ p ∷ back) q.from)) (first_sound q (front ++ p ∷ back) sound).once
 
     first : (r : Pair) → q ≡ r → r.from ≡ p.from → ⊥
     first r same e =
