@@ -62,15 +62,19 @@ pub shown : (a : ℕ) → is_name (name_of a) ≡ true → (a ≡ name_of a) ⊎
 shown a h =
     elim (nat_le a 63) as (λ b. nat_le a 63 ≡ b → (a ≡ name_of a) ⊎ (a ≡ name_of a + 64)) [
       | true ↦ λ e. inl (sym (cond-true (nat_le a 63) a (a - 64) e))
-      | false ↦ λ e. inr (co_shown a (leb-false a 63 e) (cond-false (nat_le a 63) a (a - 64) e) (at_least (name_of a) h))
+      | false ↦ λ e. inr
+          (co_shown a (leb-false a 63 e) (cond-false (nat_le a 63) a (a - 64) e) (at_least (name_of a) h))
     ] refl
 
 pub name_of_name : (n : ℕ) → is_name n ≡ true → name_of n ≡ n
 name_of_name n h = cond-true (nat_le n 63) n (n - 64) (le-leb n 63 (at_most n h))
 
 pub name_of_co_name : (n : ℕ) → name_of (n + 64) ≡ n
-name_of_co_name n = cond-false (nat_le (n + 64) 63) (n + 64) (n + 64 - 64) (lt-leb (n + 64) 63 (omega arith)) ∙ omega arith
+name_of_co_name n = cond-false (nat_le (n + 64) 63) (n + 64) (n + 64 - 64) (lt-leb (n + 64) 63 (omega arith))
+    ∙ omega arith
 
+-- What a list of names hides. That an action is hidden says that its name is found in the list, so that
+-- it is a name, and the action it or its co-name; and a listed name is found from both.
 pub hides_listed : (ns : List ℕ) (a : ℕ) → all_names ns ≡ true → HidesListed ns a
 hides_listed ns a names = (to, from)
   where

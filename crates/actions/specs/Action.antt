@@ -1,4 +1,4 @@
--- Actions and names, as numbers. Assumes nothing.
+-- Actions and names, as numbers.
 use Rattle.std.specs.Prelude.{ℕ, ◌+◌, ◌-◌, Bool, ◌&&◌, ◌||◌, nat_eq, nat_le, if◌then◌else◌}
 
 -- names are 1 to 63

@@ -1,4 +1,4 @@
--- What a list of names and a list of pairs hold. Assumes nothing.
+-- What a list of names and a list of pairs hold.
 use Rattle.std.specs.Prelude.{ℕ, List}
 use Rattle.actions.specs.declared.names.Names.{Names}
 use Rattle.actions.specs.declared.pairs.Pair.{Pair}

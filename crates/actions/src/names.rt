@@ -1,5 +1,5 @@
 // Lists of names, as a mask has one.
-ghost use Rattle.std.specs.Prelude.{◌≡◌, IsTrue};
+ghost use Rattle.std.specs.Prelude.{IsTrue};
 ghost use Rattle.actions.specs.Names.{all_names};
 
 use crate::action::{is_name, name_of};
@@ -25,7 +25,7 @@ pub enum NameFault {
 }
 
 impl Names {
-    ghost use Rattle.std.specs.Prelude.{◌≡◌, [], IsTrue, OnErr};
+    ghost use Rattle.std.specs.Prelude.{◌≡◌, [], OnErr};
     ghost use Rattle.actions.specs.Contents.{names_of};
     ghost use Rattle.actions.specs.Names.{name_fault, name_answer, names_after, hides, HidesListed};
 
@@ -41,7 +41,8 @@ impl Names {
     // Takes one name more, behind the others, or refuses it and stays as it is.
     pub fn add(&mut self, name: u8) -> Result<(), NameFault>
         ensures answer { result ≡ name_answer (name_fault (names_of self.old) name) }
-        ensures names { names_of self.new ≡ names_after (name_fault (names_of self.old) name) (names_of self.old) name }
+        ensures names { names_of self.new ≡
+            names_after (name_fault (names_of self.old) name) (names_of self.old) name }
         ensures refused { OnErr result (self.new ≡ self.old) }
     {
         if self.items.items().len() >= NAME_LIMIT {

@@ -1,5 +1,5 @@
 // Pairs of names, as a renaming has them.
-ghost use Rattle.std.specs.Prelude.{◌≡◌, IsTrue};
+ghost use Rattle.std.specs.Prelude.{IsTrue};
 ghost use Rattle.actions.specs.Pairs.{sound_pairs};
 
 use crate::action::{is_name, name_of};
@@ -11,7 +11,8 @@ pub const PAIR_LIMIT: usize = 8;
 // A name, and the one that is put in its place.
 #[derive(Clone, Copy)]
 pub struct Pair {
-    // Bytes and no names: a pair is made of any and then checked, so that a list can say what is wrong with it.
+    // Bytes and no names: a pair is made of any and then checked, so that a list can say what is
+    // wrong with it.
     pub from: u8,
     pub to: u8,
 }
@@ -46,7 +47,7 @@ impl Blank for Pair {
 }
 
 impl Pairs {
-    ghost use Rattle.std.specs.Prelude.{◌≡◌, [], IsTrue, OnErr};
+    ghost use Rattle.std.specs.Prelude.{◌≡◌, [], OnErr};
     ghost use Rattle.actions.specs.Contents.{pairs_of};
     ghost use Rattle.actions.specs.Pairs.{beside_fault, pair_fault, pair_answer, pairs_after, to_of, replacement, RenamesNames};
 
@@ -62,7 +63,8 @@ impl Pairs {
     // Takes one pair more, behind the others, or refuses it and stays as it is.
     pub fn add(&mut self, pair: Pair) -> Result<(), PairFault>
         ensures answer { result ≡ pair_answer (pair_fault (pairs_of self.old) pair) }
-        ensures pairs { pairs_of self.new ≡ pairs_after (pair_fault (pairs_of self.old) pair) (pairs_of self.old) pair }
+        ensures pairs { pairs_of self.new ≡
+            pairs_after (pair_fault (pairs_of self.old) pair) (pairs_of self.old) pair }
         ensures refused { OnErr result (self.new ≡ self.old) }
     {
         if self.items.items().len() >= PAIR_LIMIT {

@@ -1,4 +1,4 @@
--- How the calls on a page come out, by the sheet's standing and its replay. Assumes nothing.
+-- How the calls on a page come out, by the sheet's standing and its replay.
 use Rattle.std.proofs.Common.{◌≡◌, ℕ, ◌+◌, ◌-◌, ◌<◌, ◌≤◌, false, ltb, leb, [], length, take, set, Some, None, Ok, Err, Result, sym, refl, ap, ◌∙◌, arith}
 use Rattle.std.proofs.lemmas.Bool.{both_ways, cond-true, cond-false, lt-ltb, le-ltb, le-leb}
 use Rattle.steps.specs.declared.fault.MaskFault.{MaskFault}

@@ -1,4 +1,4 @@
--- How a list of steps is followed one by one, and what a replay makes of where it stops. Assumes nothing.
+-- How a list of steps is followed one by one, and what a replay makes of where it stops.
 use Rattle.std.proofs.Common.{◌≡◌, ℕ, ◌+◌, ◌<◌, ◌≤◌, List, [], ◌∷◌, length, get_or, drop, Ok, Err, Result, sym, refl, ap, ◌∙◌}
 use Rattle.std.proofs.lemmas.List.{at_drop_more, at_drop_all, get_or_default}
 use Rattle.steps.specs.Meaning.{Str, Transitions}

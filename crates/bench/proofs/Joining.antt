@@ -1,4 +1,4 @@
--- How a join comes out, and the rows that it writes. Assumes nothing.
+-- How a join comes out, and the rows that it writes.
 use Rattle.std.proofs.Common.{◌≡◌, ℕ, Bool, ◌+◌, ◌<◌, ◌≤◌, true, cond, leb, List, length, is_ok, Some, None, Ok, Err, Result, sym, refl, ap, ◌∙◌, ap₂}
 use Rattle.std.proofs.lemmas.Bool.{cond-true, cond-false, le-leb, lt-leb}
 use Rattle.std.specs.Str.{bytes_eq}

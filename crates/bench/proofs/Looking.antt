@@ -1,4 +1,4 @@
--- How a look at the first steps of a page comes out. Assumes nothing.
+-- How a look at the first steps of a page comes out.
 use Rattle.std.proofs.Common.{◌≡◌, ℕ, ◌<◌, ◌≤◌, leb, take, Ok, Err, refl, ap, sym, ◌∙◌}
 use Rattle.std.proofs.lemmas.Bool.{cond-true, cond-false, le-leb, lt-leb}
 use Rattle.steps.specs.Meaning.{Str, Transitions}

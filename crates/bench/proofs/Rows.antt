@@ -1,4 +1,4 @@
--- States that follow, read out of a buffer. Assumes nothing.
+-- States that follow, read out of a buffer.
 use Rattle.std.proofs.Common.{◌≡◌, ℕ, leb, length, take, drop, Some, None, Ok, sym, refl, ap, ◌∙◌}
 use Rattle.std.proofs.lemmas.List.{take_at}
 use Rattle.std.proofs.lemmas.Bool.{cond-true, le-leb}

@@ -1,4 +1,4 @@
--- Calls that answer nothing more than that they are accepted. Assumes nothing.
+-- Calls that answer nothing more than that they are accepted.
 use Rattle.std.proofs.Common.{◌≡◌, ℕ, ◌-◌, Bool, true, false, cond, ltb, ◌&&◌, List, [], get_or, take, Some, None, Ok, Err, Option, Result, refl}
 use Rattle.steps.specs.Meaning.{Str, Transitions, Independence}
 use Rattle.steps.specs.declared.fault.MaskFault.{MaskFault}

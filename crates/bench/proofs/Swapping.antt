@@ -1,4 +1,4 @@
--- How a swap comes out. Assumes nothing.
+-- How a swap comes out.
 use Rattle.std.proofs.Common.{◌≡◌, ℕ, ◌-◌, ◌<◌, ◌≤◌, ◌&&◌, ltb, ◌⊎◌, [], get_or, take, Some, None, Ok, Err, Option, Result, sym, ap, ◌∙◌, inl, inr, arith}
 use Rattle.std.proofs.lemmas.Bool.{cond-true, cond-false, lt-ltb, le-ltb, and_from, and_left, and_right}
 use Rattle.steps.specs.Meaning.{Str, Transitions, Independence}

@@ -1,4 +1,4 @@
--- A call on one sheet of the table. Assumes nothing.
+-- A call on one sheet of the table.
 use Rattle.std.proofs.Common.{◌≡◌, ℕ, ◌<◌, Bool, true, false, cond, ltb, List, map, length, get_or, set, Ok, Err, sym, refl, ap, ◌∙◌, arith}
 use Rattle.std.proofs.lemmas.List.{get_or-map, map-set, set-get_or}
 use Rattle.std.proofs.lemmas.Bool.{cond-true, lt-ltb, ltb-true}

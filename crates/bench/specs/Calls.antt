@@ -1,4 +1,4 @@
--- What each call on a sheet answers, and what the sheet holds afterwards. Assumes nothing.
+-- What each call on a sheet answers, and what the sheet holds afterwards.
 use Rattle.std.specs.Prelude.{ℕ, ◌+◌, ◌-◌, cond, [], take, Ok, Err, Result, nat_lt, slice_set}
 use Rattle.steps.specs.Meaning.{Str, Transitions}
 use Rattle.steps.specs.declared.fault.MaskFault.{MaskFault}

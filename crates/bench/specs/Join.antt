@@ -1,4 +1,4 @@
--- A join of one sheet into another. Assumes nothing.
+-- A join of one sheet into another.
 use Rattle.std.specs.Prelude.{ℕ, ◌+◌, ◌-◌, cond, List, [], ◌∷◌, ◌++◌, length, take, drop, Some, None, Ok, Err, Option, Result, nat_le}
 use Rattle.std.specs.Str.{bytes_eq}
 use Rattle.steps.specs.Meaning.{Str, Transitions, Independence}

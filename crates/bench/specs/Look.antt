@@ -1,4 +1,4 @@
--- A look back at the first steps of a sheet. Assumes nothing.
+-- A look back at the first steps of a sheet.
 use Rattle.std.specs.Prelude.{ℕ, cond, take, Ok, Err, nat_le}
 use Rattle.steps.specs.Meaning.{Transitions}
 use Rattle.steps.specs.Answers.{fitting_state}

@@ -1,4 +1,4 @@
--- What a sheet holds: its standing, its start, and its rows, of which the first hold its steps. Assumes nothing.
+-- What a sheet holds: its standing, its start, and its rows, of which the first hold its steps.
 use Rattle.std.specs.Prelude.{ℕ, List, [], take, replicate}
 use Rattle.steps.specs.Meaning.{Str}
 use Rattle.bench.specs.declared.sheet.Standing.{Standing}

@@ -1,4 +1,4 @@
--- The text of a released sheet: a line for its length and start, one for each step with its label, and one for its end. Assumes nothing.
+-- The text of a released sheet: a line for its length and start, one for each step with its label, and one for its end.
 use Rattle.std.specs.Prelude.{ℕ, ◌+◌, ◌*◌, cond, List, [], ◌∷◌, ◌++◌, length, Ok, Err, nat_le}
 use Rattle.std.specs.List.{flat_map}
 use Rattle.steps.specs.Meaning.{Str, Transitions}

@@ -1,4 +1,4 @@
--- The number, the layer and the place by which each refusal of the bench is told. Assumes nothing.
+-- The number, the layer and the place by which each refusal of the bench is told.
 use Rattle.std.specs.Prelude.{Some, None, Option}
 use Rattle.steps.specs.declared.fault.Refusal.{Refusal}
 use Rattle.steps.specs.Refusals.{mask_refusal}

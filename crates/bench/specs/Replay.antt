@@ -1,4 +1,4 @@
--- What the replay of a sheet in a system gives: its end, or the step that stops it and why. Assumes nothing.
+-- What the replay of a sheet in a system gives: its end, or the step that stops it and why.
 use Rattle.std.specs.Prelude.{ℕ, ◌+◌, List, [], ◌∷◌, Ok, Err, Result}
 use Rattle.steps.specs.Meaning.{Str, Transitions}
 use Rattle.steps.specs.Answers.{state_answer, next_answer}

@@ -1,4 +1,4 @@
--- A swap of neighbours on a sheet. Assumes nothing.
+-- A swap of neighbours on a sheet.
 use Rattle.std.specs.Prelude.{ℕ, ◌-◌, cond, ◌&&◌, [], take, Some, None, Ok, Err, Option, Result, nat_lt, slice_index_or, slice_set}
 use Rattle.steps.specs.Meaning.{Transitions, Independence}
 use Rattle.steps.specs.declared.fault.MaskFault.{MaskFault}

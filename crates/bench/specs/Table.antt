@@ -1,4 +1,4 @@
--- What a call on one of four sheets answers, and what all four hold afterwards. Assumes nothing.
+-- What a call on one of four sheets answers, and what all four hold afterwards.
 use Rattle.std.specs.Prelude.{ℕ, cond, List, map, Some, None, Ok, Err, Option, Result, nat_lt, slice_index_or, slice_set}
 use Rattle.bench.specs.declared.fault.BenchFault.{BenchFault}
 use Rattle.bench.specs.declared.fault.BenchFault.TheVariants.{NoSheet}

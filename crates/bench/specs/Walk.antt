@@ -1,4 +1,4 @@
--- Steps walked one by one: the state that they lead to, or the step that does not follow and why. Assumes nothing.
+-- Steps walked one by one: the state that they lead to, or the step that does not follow and why.
 use Rattle.std.specs.Prelude.{ℕ, ◌+◌, List, [], ◌∷◌, Ok, Err, Result}
 use Rattle.steps.specs.Meaning.{Str, Transitions}
 use Rattle.steps.specs.Answers.{next_answer}

@@ -1,4 +1,4 @@
--- A list that was made of given items. Assumes nothing.
+-- A list that was made of given items.
 use Rattle.std.proofs.Common.{◌≡◌, ℕ, Bool, true, false, cond, leb, List, length, Some, None, arith}
 use Rattle.byte_strings.specs.Fitted.{list_within}
 

@@ -1,4 +1,5 @@
--- What is answered where a string is asked for in a lent buffer, and every byte of the buffer afterwards. Assumes nothing.
+-- What is answered where a string is asked for in a lent buffer, and every byte of the buffer
+-- afterwards.
 use Rattle.std.specs.Prelude.{ℕ, List, ◌++◌, length, drop, Some, None, Ok, Err, Option, Result, nat_le, if◌then◌else◌}
 
 -- a string of bytes
@@ -9,7 +10,8 @@ Str = List ℕ
 abbrev pub over : Str → Str → Str
 over w buffer = w ++ drop (length w) buffer
 
--- the length of a string that is answered, and the buffer afterwards: untouched where nothing is answered
+-- the length of a string that is answered, and the buffer afterwards: untouched where nothing is
+-- answered
 abbrev pub count : {F : Type 0} → Result Str F → Result ℕ F
 count (Ok w) = Ok (length w)
 count (Err f) = Err f

@@ -1,4 +1,4 @@
--- What is answered where a list is made of given items. Assumes nothing.
+-- What is answered where a list is made of given items.
 use Rattle.std.specs.Prelude.{ℕ, List, length, Some, None, Option, nat_le, if◌then◌else◌}
 
 -- items, where there are at most n

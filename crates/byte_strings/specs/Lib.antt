@@ -1,4 +1,4 @@
 pub mod Buffer
 pub mod Fitted
-pub mod Places
+pub mod Laws
 pub mod Lent

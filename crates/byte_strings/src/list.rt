@@ -15,7 +15,8 @@ pub trait Blank: Copy {
 }
 
 // The places behind the items are blank, so a list has one form; a contract sees the items alone.
-// A table with its length: no heap is used, and the kit's `ArrayVec`, which has a table too, is no `Copy`.
+// A table with its length: no heap is used, and the kit's `ArrayVec`, which has a table too, is no
+// `Copy`.
 #[derive(Copy)]
 pub struct FixedList<T: Blank, const N: usize> {
     len: usize,
@@ -24,17 +25,26 @@ pub struct FixedList<T: Blank, const N: usize> {
 
 impl<T: Blank, const N: usize> Model for FixedList<T, N> {
     ghost use Rattle.std.specs.Prelude.{◌≡◌, ◌-◌, ◌≤◌, List, ◌++◌, length, take, drop, replicate};
-    ghost use Rattle.byte_strings.specs.Places.{found_again};
+    ghost use Rattle.byte_strings.specs.Laws.Places.{found_again};
 
     ghost Value = { List T };
 
     ghost view = { λ l. take l.len l.places };
 
-    ghost invariant = { λ l. (l.len ≤ N) × (length l.places ≡ N) × (drop l.len l.places ≡ replicate (N - l.len) T.blank) };
+    ghost invariant = { λ l.
+        (l.len ≤ N)
+        × (length l.places ≡ N)
+        × (drop l.len l.places ≡ replicate (N - l.len) T.blank) };
 
-    ghost inverse = { λ items. record { len = length items; places = items ++ replicate (N - length items) T.blank } };
+    ghost inverse = { λ items.
+        record {
+          len = length items;
+          places = items ++ replicate (N - length items) T.blank;
+        } };
 
-    ghost inverse_ok = { λ l h. found_again (λ len places. record { len = len; places = places }) l.len N l.places T.blank h.0 h.1 h.2 };
+    ghost inverse_ok = { λ l h.
+        found_again (λ len places. record { len = len; places = places })
+        l.len N l.places T.blank h.0 h.1 h.2 };
 }
 
 impl<T: Blank, const N: usize> FixedList<T, N> {
@@ -149,7 +159,8 @@ impl<const N: usize> FixedList<u8, N> {
     }
 }
 
-// Copied as it is: a derived clone asks each item for a clone, and of those a generic item says nothing.
+// Copied as it is: a derived clone asks each item for a clone, and of those a generic item says
+// nothing.
 impl<T: Blank, const N: usize> Clone for FixedList<T, N> {
     ghost use Rattle.std.specs.Prelude.{◌≡◌, ⊤};
 

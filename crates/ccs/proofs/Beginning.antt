@@ -1,4 +1,5 @@
--- The place that reading tells is where the longest beginning ends. Assumes nothing.
+-- The place that reading tells is where the longest beginning ends.
+-- Up to there the string begins one that is read. A longer beginning goes through the byte there, and none is read.
 use Rattle.std.proofs.Common.{◌≡◌, ℕ, zero, suc, ◌≤◌, List, [], ◌∷◌, ◌++◌, take, Ok, Err, Option, sym, refl, ap, ◌∙◌, subst, arith}
 use Rattle.steps.specs.Meaning.{Str}
 use Rattle.ccs.specs.declared.due.Due.{Due}

@@ -1,4 +1,5 @@
--- What is left of a proof keeps its label, is as proper and as sound, and is no longer. Assumes nothing.
+-- What is left of a proof keeps its label, is as proper and as sound, and is no longer.
+-- By induction on how the proofs are independent: only nodes of choices go, and they do none of this.
 use Rattle.std.proofs.Common.{◌≡◌, ◌≤◌, length, refl, length-append, arith}
 use Rattle.ccs.specs.Syntax.{Proof}
 use Rattle.ccs.specs.Label.{label, proper}
@@ -56,10 +57,19 @@ unfolding proof_bytes
 length_kept left_right = omega arith
 length_kept right_left = omega arith
 length_kept (left_both a) = omega (arith, length_kept a)
-length_kept (both_left {u = u} {v = v} {u' = u'} a) = omega (arith, length_kept a, length-append (proof_bytes u) (proof_bytes v), length-append (proof_bytes u') (proof_bytes v))
+length_kept (both_left {u = u} {v = v} {u' = u'} a) =
+    let long = length-append (proof_bytes u) (proof_bytes v) in
+    let left = length-append (proof_bytes u') (proof_bytes v) in
+    omega (arith, length_kept a, long, left)
 length_kept (right_both a) = omega (arith, length_kept a)
-length_kept (both_right {u = u} {v = v} {v' = v'} a) = omega (arith, length_kept a, length-append (proof_bytes u) (proof_bytes v), length-append (proof_bytes u) (proof_bytes v'))
-length_kept (both_both {t = t} {u = u} {t' = t'} {u' = u'} a b) = omega (arith, length_kept a, length_kept b, length-append (proof_bytes t) (proof_bytes u), length-append (proof_bytes t') (proof_bytes u'))
+length_kept (both_right {u = u} {v = v} {v' = v'} a) =
+    let long = length-append (proof_bytes u) (proof_bytes v) in
+    let left = length-append (proof_bytes u) (proof_bytes v') in
+    omega (arith, length_kept a, long, left)
+length_kept (both_both {t = t} {u = u} {t' = t'} {u' = u'} a b) =
+    let long = length-append (proof_bytes t) (proof_bytes u) in
+    let left = length-append (proof_bytes t') (proof_bytes u') in
+    omega (arith, length_kept a, length_kept b, long, left)
 length_kept (left_left a) = omega (arith, length_kept a)
 length_kept (right_right a) = omega (arith, length_kept a)
 length_kept (under_under e a) = omega (arith, length_kept a)

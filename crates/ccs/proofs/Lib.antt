@@ -7,6 +7,8 @@ pub mod ProofReading
 pub mod Beginning
 pub mod Residual
 pub mod Kept
+pub mod First
+pub mod Limits
 pub mod Improper
 pub mod Follow
 pub mod System

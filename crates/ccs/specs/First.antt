@@ -1,4 +1,4 @@
--- The least number that something holds of. Assumes nothing.
+-- The least number that something holds of.
 use Rattle.std.specs.Prelude.{ℕ, ◌<◌, Some, None, Option}
 
 pub record First (P : ℕ → Type 0) (k : ℕ) : Type 0 where

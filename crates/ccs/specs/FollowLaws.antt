@@ -1,4 +1,4 @@
--- What follows a term, by the transition rules. Assumes nothing.
+-- What follows a term, by the transition rules.
 use Rattle.std.specs.Prelude.{◌≡◌, ℕ, ◌↔◌, List, length, Ok, Err, IsTrue}
 use Rattle.steps.specs.Meaning.{Str}
 use Rattle.ccs.specs.Syntax.{Term, Proof}
@@ -9,7 +9,8 @@ use Rattle.ccs.specs.First.{First}
 use Rattle.ccs.specs.Follow.{MisfitAt}
 use Rattle.ccs.specs.System.{body_of, sound_bodies, terms_transitions}
 
--- The state a spells a term, the step x a proper proof by which it moves, and b the term that it moves to.
+-- The state a spells a term, the step x a proper proof by which it moves, and b the term that it
+-- moves to.
 pub record Goes (ds : List Term) (a x b : Str) : Type 0 where
   pub p : Term
   pub t : Proof
@@ -22,15 +23,25 @@ pub record Goes (ds : List Term) (a x b : Str) : Type 0 where
   pub moves : Moves (body_of ds) p t q
   pub end : term_bytes q ≡ b
 
--- a step leads from a state to another exactly where the rules say so
+-- A step leads from a state to another exactly where the rules say so.
 abbrev pub NextByRules : Type 0
-NextByRules = (ds : List Term) → IsTrue (sound_bodies (length ds) ds) → (a x b : Str) → ((terms_transitions ds).next a x ≡ Ok b) ↔ Goes ds a x b
+NextByRules =
+    (ds : List Term) → IsTrue (sound_bodies (length ds) ds)
+    → (a x b : Str)
+    → ((terms_transitions ds).next a x ≡ Ok b) ↔ Goes ds a x b
 
--- where a step is not possible in a state, the first node that does not fit is told
+-- Exactly where a step is not possible in a state, the first node that does not fit is told.
 abbrev pub MisfitsTold : Type 0
-MisfitsTold = (ds : List Term) → IsTrue (sound_bodies (length ds) ds) → (p : Term) (t : Proof) (k : ℕ) → IsTrue (sound_term (length ds) p) → IsTrue (sound_proof t) → IsTrue (proper t) →
-    (terms_transitions ds).next (term_bytes p) (proof_bytes t) ≡ Err k → First (MisfitAt (body_of ds) p t) k
+MisfitsTold =
+    (ds : List Term) → IsTrue (sound_bodies (length ds) ds)
+    → (p : Term) → IsTrue (sound_term (length ds) p)
+    → (t : Proof) → IsTrue (sound_proof t) → IsTrue (proper t)
+    → (k : ℕ)
+    → ((terms_transitions ds).next (term_bytes p) (proof_bytes t) ≡ Err k)
+    ↔ First (MisfitAt (body_of ds) p t) k
 
--- a step shows what its proof does
+-- A step shows what its proof does.
 abbrev pub LabelsShown : Type 0
-LabelsShown = (ds : List Term) (t : Proof) → IsTrue (sound_proof t) → (terms_transitions ds).label (proof_bytes t) ≡ record { action = label t }
+LabelsShown =
+    (ds : List Term) (t : Proof) → IsTrue (sound_proof t)
+    → (terms_transitions ds).label (proof_bytes t) ≡ record { action = label t }

@@ -1,4 +1,4 @@
--- What a proof shows, and which proofs are proper. Assumes nothing.
+-- What a proof shows, and which proofs are proper.
 use Rattle.std.specs.Prelude.{ℕ, Bool, true, ◌&&◌, not, nat_eq}
 use Rattle.ccs.specs.Syntax.{Proof}
 use Rattle.ccs.specs.Syntax.Proof.{act, on_left, on_right, both, choose_left, choose_right, under}
@@ -14,7 +14,8 @@ label (choose_left t) = label t
 label (choose_right t) = label t
 label (under n t) = label t
 
--- two sides meet in a name and its co-name, and nothing that shows a restricted name leaves the restriction
+-- two sides meet in a name and its co-name, and nothing that shows a restricted name leaves the
+-- restriction
 unfoldable pub proper : Proof → Bool
 proper (act a) = true
 proper (on_left t) = proper t

@@ -1,4 +1,4 @@
--- Reading bytes: the terms or proofs that they are, or the first byte that fits none. Assumes nothing.
+-- Reading bytes: the terms or proofs that they are, or the first byte that fits none.
 use Rattle.std.specs.Prelude.{ℕ, zero, suc, Bool, true, false, ◌&&◌, List, [], ◌∷◌, Some, None, Ok, Err, Option, Result, nat_eq, nat_le, nat_lt, if◌then◌else◌}
 use Rattle.steps.specs.Meaning.{Str}
 use Rattle.ccs.specs.declared.node_bytes.TheConstants.{NIL, PREFIX, PARALLEL, SUM, RESTRICTION, CALL, ACT, LEFT, RIGHT, BOTH, CHOOSE_LEFT, CHOOSE_RIGHT, UNDER}
@@ -9,57 +9,65 @@ use Rattle.ccs.specs.Syntax.Term.{nil, prefix, par, sum, restrict, call}
 use Rattle.ccs.specs.Syntax.Proof.{act, on_left, on_right, both, choose_left, choose_right, under}
 use Rattle.actions.specs.Action.{is_name, is_action}
 
--- What is due behind a byte that fits: the next byte, and how many terms or proofs; and what the byte makes of those that are read there.
+-- What is due behind a byte that fits: the next byte, and how many terms or proofs; and what the
+-- byte makes of those that are read there.
 pub record Next (A : Type 0) : Type 0 where
   pub due : Due
   pub count : ℕ
   pub build : List A → List A
 
-abbrev pub finished : Due → ℕ → Bool
-finished Node zero = true
-finished Node (suc k) = false
-finished Action k = false
-finished Name k = false
-finished Number k = false
+-- no term or proof is due any more, and none is begun
+abbrev pub nothing_due : Due → ℕ → Bool
+nothing_due Node zero = true
+nothing_due Node (suc k) = false
+nothing_due Action k = false
+nothing_due Name k = false
+nothing_due Number k = false
 
 -- a byte was read before what is read
 abbrev pub behind : {A B : Type 0} → (A → B) → Result A ℕ → Result B ℕ
 behind f (Ok x) = Ok (f x)
 behind f (Err p) = Err (suc p)
 
-abbrev pub onward : {A : Type 0} → Option (Next A) → (Due → ℕ → Result (List A) ℕ) → Result (List A) ℕ
+-- goes on behind a byte, if it fits
+abbrev pub onward : {A : Type 0}
+    → Option (Next A) → (Due → ℕ → Result (List A) ℕ) → Result (List A) ℕ
 onward None rest = Err 0
 onward (Some n) rest = behind n.build (rest n.due n.count)
 
 -- So many, one behind the other and nothing else. Else the place of the first byte that fits none.
-unfoldable pub read : {A : Type 0} → (Due → ℕ → ℕ → Option (Next A)) → Due → ℕ → Str → Result (List A) ℕ
-read byte due k [] = if finished due k then Ok [] else Err 0
+unfoldable pub read : {A : Type 0}
+    → (Due → ℕ → ℕ → Option (Next A)) → Due → ℕ → Str → Result (List A) ℕ
+read byte due k [] = if nothing_due due k then Ok [] else Err 0
 read byte due k (b ∷ s) = onward (byte due k b) (λ d j. read byte d j s)
 
--- a node alone before what is read behind it, or around the first of that, or around the first two
+-- a node without parts, before what is read behind it
 abbrev pub alone : {A : Type 0} → A → ℕ → Option (Next A)
 alone x k = Some (record { due = Node; count = k; build = λ xs. x ∷ xs })
 
-abbrev pub around : {A : Type 0} → (A → A) → List A → List A
-around f [] = []
-around f (x ∷ xs) = f x ∷ xs
+-- a node around the first of what is read behind it
+abbrev pub on_first : {A : Type 0} → (A → A) → List A → List A
+on_first f [] = []
+on_first f (x ∷ xs) = f x ∷ xs
 
 abbrev pub with_part : {A : Type 0} → (A → A) → ℕ → Option (Next A)
-with_part f k = Some (record { due = Node; count = suc k; build = around f })
+with_part f k = Some (record { due = Node; count = suc k; build = on_first f })
 
-abbrev pub joining : {A : Type 0} → (A → A → A) → List A → List A
-joining f [] = []
-joining f (x ∷ []) = x ∷ []
-joining f (x ∷ y ∷ xs) = f x y ∷ xs
+-- a node around the first two
+abbrev pub on_first_two : {A : Type 0} → (A → A → A) → List A → List A
+on_first_two f [] = []
+on_first_two f (x ∷ []) = x ∷ []
+on_first_two f (x ∷ y ∷ xs) = f x y ∷ xs
 
 abbrev pub with_parts : {A : Type 0} → (A → A → A) → ℕ → Option (Next A)
-with_parts f k = Some (record { due = Node; count = suc (suc k); build = joining f })
+with_parts f k = Some (record { due = Node; count = suc (suc k); build = on_first_two f })
 
 -- a node's first byte, before what belongs to it
 abbrev pub before : {A : Type 0} → Due → ℕ → Option (Next A)
 before d k = Some (record { due = d; count = k; build = λ xs. xs })
 
--- a byte of terms over n definitions, where so many terms are due; behind a node's first byte, one more
+-- a byte of terms over n definitions, where so many terms are due, and one more behind a node's
+-- first byte
 unfoldable pub term_byte : ℕ → Due → ℕ → ℕ → Option (Next Term)
 term_byte n Node zero b = None
 term_byte n Node (suc k) b =

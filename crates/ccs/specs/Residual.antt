@@ -1,4 +1,4 @@
--- What is left of a proof after an independent one, and of which proof one is left. Assumes nothing.
+-- What is left of a proof after an independent one, and of which proof one is left.
 use Rattle.std.specs.Prelude.{Some, None, Option, nat_eq, if◌then◌else◌}
 use Rattle.ccs.specs.Syntax.{Proof}
 use Rattle.ccs.specs.Syntax.Proof.{on_left, on_right, both, choose_left, choose_right, under}
@@ -12,7 +12,7 @@ in_both (Some t) (Some u) = Some (both t u)
 in_both (Some t) None = None
 in_both None o = None
 
--- what is left of the first after the second; none where they are dependent
+-- what is left of one proof after another; none where they are dependent
 unfoldable pub residual : Proof → Proof → Option Proof
 residual (on_left t) (on_right u) = Some (on_left t)
 residual (on_right t) (on_left u) = Some (on_right t)

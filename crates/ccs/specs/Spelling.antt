@@ -1,4 +1,4 @@
--- Terms and proofs as bytes. Assumes nothing.
+-- Terms and proofs as bytes.
 use Rattle.std.specs.Prelude.{ℕ, Bool, true, ◌&&◌, [], ◌∷◌, ◌++◌, nat_lt}
 use Rattle.steps.specs.Meaning.{Str}
 use Rattle.ccs.specs.declared.node_bytes.TheConstants.{NIL, PREFIX, PARALLEL, SUM, RESTRICTION, CALL, ACT, LEFT, RIGHT, BOTH, CHOOSE_LEFT, CHOOSE_RIGHT, UNDER}
@@ -25,7 +25,8 @@ proof_bytes (choose_left t) = CHOOSE_LEFT ∷ proof_bytes t
 proof_bytes (choose_right t) = CHOOSE_RIGHT ∷ proof_bytes t
 proof_bytes (under n t) = UNDER ∷ n ∷ proof_bytes t
 
--- a term over n definitions: its actions are actions, its restricted names names, and it calls none but these
+-- a term over n definitions: its actions are actions, its restricted names are names, and it calls
+-- none but these
 unfoldable pub sound_term : ℕ → Term → Bool
 sound_term n nil = true
 sound_term n (prefix a p) = is_action a && sound_term n p

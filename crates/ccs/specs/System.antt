@@ -1,4 +1,4 @@
--- Terms over some definitions as a step system: its states are terms, and its steps proper proofs. Assumes nothing.
+-- Terms over some definitions as a step system: its states are terms, and its steps proper proofs.
 use Rattle.std.specs.Prelude.{ℕ, min, Bool, true, false, ◌&&◌, List, [], ◌∷◌, length, is_ok, Some, None, Ok, Err, Option, Result, nat_le, slice_index_or, if◌then◌else◌}
 use Rattle.std.specs.Result.{result_err}
 use Rattle.steps.specs.declared.label.Label.{Label}
@@ -17,7 +17,7 @@ use Rattle.ccs.specs.Residual.{residual, origin}
 abbrev pub body_of : List Term → ℕ → Term
 body_of ds d = slice_index_or ds d nil
 
--- no body is a call, and each is a term over so many definitions
+-- no body is a call, and each is a term over n definitions
 unfoldable pub sound_bodies : ℕ → List Term → Bool
 sound_bodies n [] = true
 sound_bodies n (p ∷ ds) = (plain p && sound_term n p) && sound_bodies n ds
@@ -27,6 +27,7 @@ abbrev pub if_proper : Proof → Option ℕ → Result Proof ℕ
 if_proper t None = Ok t
 if_proper t (Some k) = Err k
 
+-- of a string that is to be a step: it is read as a proof, and has to be proper
 abbrev pub proper_only : Result Proof ℕ → Result Proof ℕ
 proper_only (Ok t) = if_proper t (improper t)
 proper_only (Err k) = Err k
@@ -34,10 +35,12 @@ proper_only (Err k) = Err k
 abbrev pub read_step : Str → Result Proof ℕ
 read_step x = proper_only (read_proof x)
 
+-- what a proof shows; of a string that is none, silence
 abbrev pub label_of : Result Proof ℕ → Label
 label_of (Ok t) = record { action = label t }
 label_of (Err k) = record { action = 0 }
 
+-- an answer in its bytes
 abbrev pub spelled_term : Result Term ℕ → Result Str ℕ
 spelled_term (Ok p) = Ok (term_bytes p)
 spelled_term (Err k) = Err k
@@ -46,6 +49,7 @@ abbrev pub spelled_proof : Option Proof → Option Str
 spelled_proof (Some t) = Some (proof_bytes t)
 spelled_proof None = None
 
+-- what follows a state by a step; place 0 where one of the strings is none
 abbrev pub go_on : List Term → Result Term ℕ → Result Proof ℕ → Result Str ℕ
 go_on ds (Ok p) (Ok t) = spelled_term (follow (body_of ds) p t)
 go_on ds (Ok p) (Err k) = Err 0
@@ -62,6 +66,7 @@ abbrev pub past : ℕ → Str → Option ℕ → Option ℕ
 past limit s (Some k) = Some (min k limit)
 past limit s None = if nat_le (length s) limit then None else Some limit
 
+-- the place of a proof's first improper node
 abbrev pub improper_of : Result Proof ℕ → Option ℕ
 improper_of (Ok t) = improper t
 improper_of (Err k) = None
@@ -74,7 +79,8 @@ terms_transitions ds =
       label = λ x. label_of (read_proof x);
       next = λ a x. go_on ds (read_term (length ds) a) (read_step x);
       bad_state = λ s. past state_limit s (result_err (read_term (length ds) s));
-      bad_step = λ x. or_else (past step_limit x (result_err (read_proof x))) (improper_of (read_proof x));
+      bad_step = λ x.
+          or_else (past step_limit x (result_err (read_proof x))) (improper_of (read_proof x));
       hidden = λ x. false;
     }
 

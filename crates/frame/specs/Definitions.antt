@@ -2,8 +2,11 @@
 use Rattle.std.specs.Prelude.{◌≡◌, ℕ, ◌+◌, ◌≤◌, List, [], ◌∷◌, length, Some, None, Option}
 use Rattle.frame.specs.declared.definition.Definition.{Definition}
 
--- A definition is the first of those that are left, which begin at a place of the frame; its body stands behind its length.
-pub record TakesFirst (left : List (List ℕ)) (place : ℕ) (d : Definition) (left′ : List (List ℕ)) (place′ : ℕ) : Type 0 where
+-- A definition is the first of those that are left, which begin at a place of the frame; its body
+-- stands behind its length.
+pub record TakesFirst
+    (left : List (List ℕ)) (place : ℕ) (d : Definition) (left′ : List (List ℕ)) (place′ : ℕ)
+    : Type 0 where
   pub first : left ≡ d.body.now ∷ left′
   pub stands : d.place ≡ place + 1
   pub next : place′ ≡ d.place + length d.body.now

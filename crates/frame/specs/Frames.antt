@@ -2,12 +2,17 @@
 use Rattle.std.specs.Prelude.{◌≡◌, ℕ, ◌+◌, ◌*◌, ◌/◌, ◌<◌, ◌≤◌, List, [], ◌∷◌, ◌++◌, length, Some, None, Option, IsTrue}
 use Rattle.std.specs.List.{All}
 use Rattle.actions.specs.declared.pairs.Pair.{Pair}
+use Rattle.frame.specs.declared.call.TheConstants.{SETUP, OPEN, ADD, SWAP, WITHDRAW, JOIN, RELEASE, REOPEN, PRINT, LOOK}
+use Rattle.frame.specs.declared.kind.TheConstants.{TERMS, NET}
+use Rattle.frame.specs.declared.event.TheConstants.{EVENT_SIZE}
+use Rattle.frame.specs.declared.frame.TheConstants.{FRAME_LIMIT}
 pub use Rattle.actions.specs.Pairs.{sound_pairs, pair_limit}
 pub use Rattle.actions.specs.Names.{all_names, name_limit}
 pub use Rattle.nets.specs.Events.{event_limit}
 pub use Rattle.terms.specs.Bodies.{definition_limit}
 
--- The system of a setup: terms, by the bodies of their definitions, or a net, by the bytes of its events.
+-- The system of a setup: terms, by the bodies of their definitions, or a net, by the bytes of its
+-- events.
 pub data SystemView : Type 0 where
   terms : (bodies : List (List ℕ)) → SystemView
   net : (events : List ℕ) → SystemView
@@ -51,7 +56,7 @@ definitions (body ∷ bodies) = length body ∷ (body ++ definitions bodies)
 -- how many definitions or events there are
 abbrev pub count_of : SystemView → ℕ
 count_of (terms bodies) = length bodies
-count_of (net events) = length events / 17
+count_of (net events) = length events / EVENT_SIZE
 
 -- the bytes of the definitions or events
 abbrev pub system_bytes : SystemView → List ℕ
@@ -60,24 +65,26 @@ system_bytes (net events) = events
 
 -- the byte that says which system follows
 abbrev pub kind_of : SystemView → ℕ
-kind_of (terms bodies) = 0x01
-kind_of (net events) = 0x02
+kind_of (terms bodies) = TERMS
+kind_of (net events) = NET
 
 -- pairs, names and the definitions or events, each behind a byte that counts them
 abbrev pub setup_bytes : List Pair → List ℕ → SystemView → List ℕ
-setup_bytes pairs names system = (length pairs ∷ pair_bytes pairs) ++ ((length names ∷ names) ++ (count_of system ∷ system_bytes system))
+setup_bytes pairs names system =
+    (length pairs ∷ pair_bytes pairs)
+    ++ ((length names ∷ names) ++ (count_of system ∷ system_bytes system))
 
 abbrev pub bytes_of : FrameView → List ℕ
-bytes_of (setup pairs names system) = 0xA0 ∷ kind_of system ∷ setup_bytes pairs names system
-bytes_of (open_sheet sheet state) = 0xB0 ∷ sheet ∷ state
-bytes_of (add sheet step) = 0xB1 ∷ sheet ∷ step
-bytes_of (swap sheet place) = 0xB2 ∷ sheet ∷ place ∷ []
-bytes_of (withdraw sheet) = 0xB3 ∷ sheet ∷ []
-bytes_of (join sheet other) = 0xB4 ∷ sheet ∷ other ∷ []
-bytes_of (release sheet) = 0xB5 ∷ sheet ∷ []
-bytes_of (reopen sheet) = 0xB6 ∷ sheet ∷ []
-bytes_of (print sheet) = 0xB7 ∷ sheet ∷ []
-bytes_of (look sheet count) = 0xB9 ∷ sheet ∷ count ∷ []
+bytes_of (setup pairs names system) = SETUP ∷ kind_of system ∷ setup_bytes pairs names system
+bytes_of (open_sheet sheet state) = OPEN ∷ sheet ∷ state
+bytes_of (add sheet step) = ADD ∷ sheet ∷ step
+bytes_of (swap sheet place) = SWAP ∷ sheet ∷ place ∷ []
+bytes_of (withdraw sheet) = WITHDRAW ∷ sheet ∷ []
+bytes_of (join sheet other) = JOIN ∷ sheet ∷ other ∷ []
+bytes_of (release sheet) = RELEASE ∷ sheet ∷ []
+bytes_of (reopen sheet) = REOPEN ∷ sheet ∷ []
+bytes_of (print sheet) = PRINT ∷ sheet ∷ []
+bytes_of (look sheet count) = LOOK ∷ sheet ∷ count ∷ []
 
 -- whole items of a size, as many as a byte can count
 abbrev pub Whole : ℕ → List ℕ → Type 0
@@ -86,11 +93,12 @@ Whole size items = (n : ℕ) × (n ≤ 255) × (length items ≡ size * n)
 -- A byte can count the definitions, and one the bytes of each body; events are whole.
 abbrev pub WholeSystem : SystemView → Type 0
 WholeSystem (terms bodies) = (length bodies ≤ 255) × All (λ body. length body ≤ 255) bodies
-WholeSystem (net events) = Whole 17 events
+WholeSystem (net events) = Whole EVENT_SIZE events
 
 -- A byte can count the pairs of a setup, and one its names, and its system is whole.
 abbrev pub LaidOut : FrameView → Type 0
-LaidOut (setup pairs names system) = (length pairs ≤ 255) × (length names ≤ 255) × WholeSystem system
+LaidOut (setup pairs names system) =
+    (length pairs ≤ 255) × (length names ≤ 255) × WholeSystem system
 LaidOut (open_sheet sheet state) = Unit {0}
 LaidOut (add sheet step) = Unit {0}
 LaidOut (swap sheet place) = Unit {0}
@@ -100,10 +108,6 @@ LaidOut (release sheet) = Unit {0}
 LaidOut (reopen sheet) = Unit {0}
 LaidOut (print sheet) = Unit {0}
 LaidOut (look sheet count) = Unit {0}
-
--- the most bytes of a frame
-abbrev pub frame_limit : ℕ
-frame_limit = 1024
 
 -- At most 8 pairs, of names only, in which none is replaced by two.
 abbrev pub PairsAllowed : List Pair → Type 0
@@ -116,11 +120,11 @@ NamesAllowed names = (length names ≤ name_limit) × IsTrue (all_names names)
 -- A system has at most 16 definitions, or 48 events; or it has more.
 abbrev pub Few : SystemView → Type 0
 Few (terms bodies) = length bodies ≤ definition_limit
-Few (net events) = length events ≤ 17 * event_limit
+Few (net events) = length events ≤ EVENT_SIZE * event_limit
 
 abbrev pub Many : SystemView → Type 0
 Many (terms bodies) = definition_limit < length bodies
-Many (net events) = 17 * event_limit < length events
+Many (net events) = EVENT_SIZE * event_limit < length events
 
 -- A setup has pairs and names that are allowed, and not too many definitions or events.
 abbrev pub WithinRules : FrameView → Type 0
@@ -137,7 +141,7 @@ WithinRules (look sheet count) = Unit {0}
 
 -- A frame that is accepted: laid out, within the rules and the limit.
 abbrev pub Accepted : FrameView → Type 0
-Accepted f = LaidOut f × WithinRules f × (length (bytes_of f) ≤ frame_limit)
+Accepted f = LaidOut f × WithinRules f × (length (bytes_of f) ≤ FRAME_LIMIT)
 
 -- A string begins a frame: some frame goes on from it.
 abbrev pub Begins : List ℕ → Type 0
@@ -171,4 +175,4 @@ body_place pairs names front = first_place pairs names + length (definitions fro
 
 -- the first byte of an event, by its number from 0
 abbrev pub event_place : List Pair → List ℕ → ℕ → ℕ
-event_place pairs names i = first_place pairs names + 17 * i
+event_place pairs names i = first_place pairs names + EVENT_SIZE * i

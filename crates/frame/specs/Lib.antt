@@ -1,3 +1,5 @@
+pub mod Calls
+pub mod Kinds
 pub mod Refusals
 pub mod Parts
 pub mod Definitions

@@ -8,12 +8,18 @@ use Rattle.frame.specs.declared.definition.Definitions.{Definitions}
 use Rattle.frame.specs.declared.setup.Setup.{Setup}
 use Rattle.frame.specs.declared.setup.System.{System}
 use Rattle.frame.specs.declared.parts.Parts.{Parts}
-use Rattle.frame.specs.declared.layout.Kind.{Kind}
-use Rattle.frame.specs.declared.layout.Kind.TheVariants.{Terms, Net}
+use Rattle.frame.specs.declared.kind.Kind.{Kind}
+use Rattle.frame.specs.declared.kind.Kind.TheVariants.{Terms, Net}
 use Rattle.frame.specs.declared.frame.Frame.{Frame}
 use Rattle.frame.specs.declared.frame.Frame.TheVariants as variant
+use Rattle.frame.specs.declared.frame.TheConstants.{FRAME_LIMIT}
+use Rattle.frame.specs.declared.event.TheConstants.{EVENT_SIZE}
+use Rattle.frame.specs.declared.call.Call.{Call}
+use Rattle.frame.specs.declared.call.Call.TheVariants as calls
+use Rattle.frame.specs.Calls.{head_answer}
+use Rattle.frame.specs.Kinds.{named_kind}
 use Rattle.frame.specs.Parts.{part_answer, behind_answer, bodies}
-use Rattle.frame.specs.Frames.{SystemView, FrameView, frame_limit}
+use Rattle.frame.specs.Frames.{SystemView, FrameView}
 use Rattle.frame.specs.Frames.SystemView.{terms, net}
 use Rattle.frame.specs.Frames.FrameView.{setup, open_sheet, add, swap, withdraw, join, release, reopen, print, look}
 use Rattle.frame.specs.Rules.{rules_answer}
@@ -35,9 +41,9 @@ frame_view (variant.Reopen sheet) = reopen sheet
 frame_view (variant.Print sheet) = print sheet
 frame_view (variant.Look sheet count) = look sheet count
 
-abbrev pub viewed : {A B : Type 0} → (A → B) → Result A FrameFault → Result B FrameFault
-viewed view (Ok a) = Ok (view a)
-viewed view (Err f) = Err f
+abbrev pub result_view : {A B : Type 0} → (A → B) → Result A FrameFault → Result B FrameFault
+result_view view (Ok a) = Ok (view a)
+result_view view (Err f) = Err f
 
 -- counted definitions, and what stands behind them
 abbrev pub with_behind : ℕ → List ℕ → Option (List ℕ) → Option (SystemView × List ℕ)
@@ -55,7 +61,7 @@ net_part (Some (events, behind)) = Some (net events, behind)
 
 abbrev pub system_answer : Kind → List ℕ → Option (SystemView × List ℕ)
 system_answer Terms s = terms_answer s
-system_answer Net s = net_part (part_answer 17 s)
+system_answer Net s = net_part (part_answer EVENT_SIZE s)
 
 abbrev pub definitions_view : Option (Definitions × Bor (List ℕ)) → Option (SystemView × List ℕ)
 definitions_view None = None
@@ -74,7 +80,8 @@ pub record Layout : Type 0 where
 
 abbrev pub with_system : List ℕ → List ℕ → Option (SystemView × List ℕ) → Option Layout
 with_system pairs names None = None
-with_system pairs names (Some (system, s)) = Some (record { pairs = pairs; names = names; system = system; behind = s })
+with_system pairs names (Some (system, s)) =
+    Some (record { pairs = pairs; names = names; system = system; behind = s })
 
 abbrev pub with_names : Kind → List ℕ → Option (List ℕ × List ℕ) → Option Layout
 with_names kind pairs None = None
@@ -89,20 +96,31 @@ layout_answer kind s = with_pairs kind (part_answer 2 s)
 
 abbrev pub layout_view : Option (Parts × Bor (List ℕ)) → Option Layout
 layout_view None = None
-layout_view (Some (s, behind)) = Some (record { pairs = s.pairs.now; names = s.names.now; system = system_view s.system; behind = behind.now })
+layout_view (Some (s, behind)) =
+    Some (record {
+      pairs = s.pairs.now;
+      names = s.names.now;
+      system = system_view s.system;
+      behind = behind.now;
+    })
 
 -- missing bytes are told behind the end, and extra ones where they begin
 abbrev pub parts_answer : ℕ → Option Layout → Result FrameView FrameFault
 parts_answer end None = Err (Malformed end)
-parts_answer end (Some l) = if length l.behind == 0 then rules_answer l.pairs l.names l.system else Err (Malformed (end - length l.behind))
+parts_answer end (Some l) =
+    if length l.behind == 0
+    then rules_answer l.pairs l.names l.system
+    else Err (Malformed (end - length l.behind))
+
+-- what stands behind the kind of a setup; a kind that is neither is told before all of it
+abbrev pub kind_answer : Option Kind → List ℕ → Result FrameView FrameFault
+kind_answer None s = Err (BadSetup 1)
+kind_answer (Some kind) s = parts_answer (length s + 2) (layout_answer kind s)
 
 -- what stands behind the first byte of a setup
 abbrev pub setup_answer : List ℕ → Result FrameView FrameFault
 setup_answer [] = Err (Malformed 1)
-setup_answer (kind ∷ s) =
-    if kind == 1 then parts_answer (length s + 2) (layout_answer Terms s)
-    else if kind == 2 then parts_answer (length s + 2) (layout_answer Net s)
-    else Err (BadSetup 1)
+setup_answer (byte ∷ s) = kind_answer (named_kind byte) s
 
 -- a sheet and the rest of the frame; a sheet alone; a sheet and one byte more
 abbrev pub sheet_rest_answer : (ℕ → List ℕ → FrameView) → List ℕ → Result FrameView FrameFault
@@ -120,24 +138,28 @@ sheet_byte_answer call (sheet ∷ []) = Err (Malformed 2)
 sheet_byte_answer call (sheet ∷ byte ∷ []) = Ok (call sheet byte)
 sheet_byte_answer call (sheet ∷ byte ∷ extra ∷ rest) = Err (Malformed 3)
 
-abbrev pub call_answer : ℕ → List ℕ → Result FrameView FrameFault
-call_answer call rest =
-    if call == 0xA0 then setup_answer rest
-    else if call == 0xB0 then sheet_rest_answer open_sheet rest
-    else if call == 0xB1 then sheet_rest_answer add rest
-    else if call == 0xB2 then sheet_byte_answer swap rest
-    else if call == 0xB3 then sheet_answer withdraw rest
-    else if call == 0xB4 then sheet_byte_answer join rest
-    else if call == 0xB5 then sheet_answer release rest
-    else if call == 0xB6 then sheet_answer reopen rest
-    else if call == 0xB7 then sheet_answer print rest
-    else if call == 0xB9 then sheet_byte_answer look rest
-    else Err (Malformed 0)
+-- what stands behind the byte of a call
+abbrev pub call_answer : Call → List ℕ → Result FrameView FrameFault
+call_answer calls.Setup rest = setup_answer rest
+call_answer calls.Open rest = sheet_rest_answer open_sheet rest
+call_answer calls.Add rest = sheet_rest_answer add rest
+call_answer calls.Swap rest = sheet_byte_answer swap rest
+call_answer calls.Withdraw rest = sheet_answer withdraw rest
+call_answer calls.Join rest = sheet_byte_answer join rest
+call_answer calls.Release rest = sheet_answer release rest
+call_answer calls.Reopen rest = sheet_answer reopen rest
+call_answer calls.Print rest = sheet_answer print rest
+call_answer calls.Look rest = sheet_byte_answer look rest
+
+-- the answer to a call and what stands behind its byte; a string that begins with none is refused
+abbrev pub split_answer : Option (Call × List ℕ) → Result FrameView FrameFault
+split_answer None = Err (Malformed 0)
+split_answer (Some (call, rest)) = call_answer call rest
 
 abbrev pub string_answer : List ℕ → Result FrameView FrameFault
-string_answer [] = Err (Malformed 0)
-string_answer (call ∷ rest) = call_answer call rest
+string_answer s = split_answer (head_answer s)
 
 -- what a frame says; a string longer than any frame is refused behind the longest
 abbrev pub frame_answer : List ℕ → Result FrameView FrameFault
-frame_answer s = if nat_le (length s) frame_limit then string_answer s else Err (Malformed frame_limit)
+frame_answer s =
+    if nat_le (length s) FRAME_LIMIT then string_answer s else Err (Malformed FRAME_LIMIT)

@@ -13,7 +13,8 @@ pub struct Definition<'a> {
     pub body: &'a [u8],
 }
 
-// So many definitions, each a byte that counts the bytes of its body, and the body; `bytes` begins with them, and stands at the place in the frame.
+// So many definitions, each a byte that counts the bytes of its body, and the body. `bytes` begins
+// with them, and stands at the place in the frame.
 #[derive(Clone, Copy)]
 pub struct Definitions<'a> {
     pub count: u8,
@@ -50,7 +51,9 @@ impl<'a> Definitions<'a> {
 impl<'a> Iterator for DefinitionsIter<'a> {
     type Item = Definition<'a>;
 
-    ghost next_gives = { λ s r t. NextDefinition (bodies s.count s.rest.now) s.place r (bodies t.count t.rest.now) t.place };
+    ghost next_gives = { λ s r t. NextDefinition
+        (bodies s.count s.rest.now) s.place r
+        (bodies t.count t.rest.now) t.place };
 
     ghost remaining = { λ s. at_most (length (bodies s.count s.rest.now)) };
 

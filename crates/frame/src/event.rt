@@ -5,7 +5,10 @@ ghost use Rattle.frame.specs.Events.{NextEvent};
 
 use nets::event::Event;
 
-// Events of seventeen bytes, one behind the other: an action, and the sets before and after it. They stand at the place in the frame.
+// The bytes of an event: an action, and the sets before and after it, of eight bytes each.
+pub const EVENT_SIZE: u8 = 17;
+
+// Events, one behind the other, with the place in the frame where they stand.
 #[derive(Clone, Copy)]
 pub struct Events<'a> {
     pub place: u16,
@@ -29,9 +32,9 @@ impl<'a> Events<'a> {
 
     // The place in the frame of an event's first byte, by its number from 0.
     pub fn place_of(&self, i: u8) -> u16
-        ensures { result ≡ self.now.place + 17 * i }
+        ensures { result ≡ self.now.place + EVENT_SIZE * i }
     {
-        self.place + 17 * u16::from(i)
+        self.place + u16::from(EVENT_SIZE) * u16::from(i)
     }
 }
 

@@ -1,9 +1,10 @@
 // Frames and the calls that they name.
 ghost use Rattle.std.specs.Prelude.{◌≡◌, ◌<◌, IfOk, length};
 ghost use Rattle.frame.specs.Frames.{WithinRules, sheet_of};
-ghost use Rattle.frame.specs.Reading.{frame_answer, call_answer, frame_view, viewed, sheet_answer, sheet_byte_answer};
-ghost use Rattle.frame.specs.Format.{AreBytes, ReadsFrames, PlacesMalformed, PlacesBadSetups, PlacesParts, PlacesBodies, PlacesEvents};
+ghost use Rattle.frame.specs.Reading.{frame_answer, call_answer, frame_view, result_view, sheet_answer, sheet_byte_answer};
+ghost use Rattle.frame.specs.Format.{AreBytes, ReadsFrames, PlacesMalformed, PlacesKinds, PlacesBadSetups, ReadsOnce, PlacesParts, PlacesBodies, PlacesEvents};
 
+use crate::call::Call;
 use crate::fault::FrameFault;
 use crate::setup::Setup;
 
@@ -26,26 +27,29 @@ pub enum Frame<'a> {
 pub const FRAME_LIMIT: usize = 1024;
 
 impl Frame<'_> {
-    // Reads a frame; a string longer than a frame may be is malformed at the limit.
+    // Reads a frame by its format; a string of more than 1,024 bytes is malformed at 1,024.
+    // A setup is held to its counts, its pairs and its names. Neither bodies nor events are
+    // judged: of these only the number is, and of each body its length.
     pub fn read(frame: &[u8]) -> Result<Frame<'_>, FrameFault>
-        ensures answer { viewed frame_view result ≡ frame_answer frame.now }
+        ensures answer { result_view frame_view result ≡ frame_answer frame.now }
         ensures rules { IfOk result (λ f. WithinRules (frame_view f)) }
         ensures bytes { AreBytes frame.now }
         ensures frames { ReadsFrames }
         ensures malformed { PlacesMalformed }
+        ensures kinds { PlacesKinds }
         ensures setups { PlacesBadSetups }
+        ensures once { ReadsOnce }
         ensures parts { PlacesParts }
         ensures bodies { PlacesBodies }
         ensures events { PlacesEvents }
     {
         if frame.len() > FRAME_LIMIT {
-            return Err(FrameFault::Malformed(1024));
+            return Err(FrameFault::Malformed(FRAME_LIMIT as u16));
         }
-        // A pattern and no `split_first`: it shows the head of a frame as it stands.
-        let [call, rest @ ..] = frame else {
+        let Some((call, rest)) = Call::split_first(frame) else {
             return Err(FrameFault::Malformed(0));
         };
-        read_call(*call, rest)
+        read_call(call, rest)
     }
 
     // The sheet that a frame names first; none where it is a setup.
@@ -68,57 +72,56 @@ impl Frame<'_> {
     }
 }
 
-// Reads what stands behind the byte that names the call.
-fn read_call(call: u8, rest: &[u8]) -> Result<Frame<'_>, FrameFault>
+// Reads what stands behind the byte of a call.
+fn read_call(call: Call, rest: &[u8]) -> Result<Frame<'_>, FrameFault>
     requires { length rest.now < 1024 }
-    ensures { viewed frame_view result ≡ call_answer call rest.now }
+    ensures { result_view frame_view result ≡ call_answer call rest.now }
 {
-    // By the byte itself: here it becomes the enum of frames, and an enum of calls between would say each byte twice.
     let frame = match call {
-        // No `?`: it has no proof at a value that holds a loan and a list of fixed places.
-        0xA0 => match Setup::read(rest) {
+        // No `?`: it has no rule for a value that lends parts and holds a `Copy` struct with a
+        // `Model`, as the pairs and the names of a setup are.
+        Call::Setup => match Setup::read(rest) {
             Ok(setup) => Frame::Setup(setup),
             Err(fault) => return Err(fault),
         },
-        0xB0 => {
+        Call::Open => {
             let (sheet, state) = rest.split_first().ok_or(FrameFault::Malformed(1))?;
             Frame::Open {
                 sheet: *sheet,
                 state,
             }
         }
-        0xB1 => {
+        Call::Add => {
             let (sheet, step) = rest.split_first().ok_or(FrameFault::Malformed(1))?;
             Frame::Add {
                 sheet: *sheet,
                 step,
             }
         }
-        0xB2 => {
+        Call::Swap => {
             let (sheet, place) = with_byte(rest)?;
             Frame::Swap { sheet, place }
         }
-        0xB3 => Frame::Withdraw {
+        Call::Withdraw => Frame::Withdraw {
             sheet: alone(rest)?,
         },
-        0xB4 => {
+        Call::Join => {
             let (sheet, other) = with_byte(rest)?;
             Frame::Join { sheet, other }
         }
-        0xB5 => Frame::Release {
+        Call::Release => Frame::Release {
             sheet: alone(rest)?,
         },
-        0xB6 => Frame::Reopen {
+        Call::Reopen => Frame::Reopen {
             sheet: alone(rest)?,
         },
-        0xB7 => Frame::Print {
+        Call::Print => Frame::Print {
             sheet: alone(rest)?,
         },
-        0xB9 => {
+        Call::Look => {
             let (sheet, count) = with_byte(rest)?;
             Frame::Look { sheet, count }
         }
-        _ => return Err(FrameFault::Malformed(0)),
     };
     Ok(frame)
 }

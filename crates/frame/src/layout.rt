@@ -6,16 +6,10 @@ ghost use Rattle.frame.specs.Systems.{place_of};
 ghost use Rattle.frame.specs.Reading.{layout_answer, layout_view, system_answer, system_part_view, terms_answer, definitions_view};
 
 use crate::definition::Definitions;
-use crate::event::Events;
+use crate::event::{EVENT_SIZE, Events};
+use crate::kind::Kind;
 use crate::parts::Parts;
 use crate::setup::System;
-
-// The kinds of setups.
-#[derive(Clone, Copy)]
-pub(crate) enum Kind {
-    Terms,
-    Net,
-}
 
 // Takes the bytes behind the kind of a setup apart: its parts, and the bytes behind them.
 pub(crate) fn layout(kind: Kind, fields: &[u8]) -> Option<(Parts<'_>, &[u8])>
@@ -24,7 +18,8 @@ pub(crate) fn layout(kind: Kind, fields: &[u8]) -> Option<(Parts<'_>, &[u8])>
 {
     let (pairs, rest) = split_off(fields, 2)?;
     let (names, rest) = split_off(rest, 1)?;
-    // Five bytes stand before the system beside the pairs and the names: the call, the kind and three counts.
+    // Beside the pairs and the names, five bytes stand before the system: the call, the kind and
+    // three counts.
     let place = 5 + (pairs.len() + names.len()) as u16;
     let (system, behind) = split_system(kind, place, rest)?;
     let parts = Parts {
@@ -35,7 +30,8 @@ pub(crate) fn layout(kind: Kind, fields: &[u8]) -> Option<(Parts<'_>, &[u8])>
     Some((parts, behind))
 }
 
-// Splits off the count of definitions or events, and these, which stand at the place; what stands behind them comes second.
+// Splits off the count of definitions or events, and these, which stand at the place; what stands
+// behind them comes second.
 fn split_system(kind: Kind, place: u16, bytes: &[u8]) -> Option<(System<'_>, &[u8])>
     requires { place + length bytes.now ≤ 1025 }
     ensures view { system_part_view result ≡ system_answer kind bytes.now }
@@ -47,7 +43,7 @@ fn split_system(kind: Kind, place: u16, bytes: &[u8]) -> Option<(System<'_>, &[u
             Some((System::Terms(definitions), behind))
         }
         Kind::Net => {
-            let (bytes, behind) = split_off(bytes, 17)?;
+            let (bytes, behind) = split_off(bytes, EVENT_SIZE)?;
             Some((System::Net(Events { place, bytes }), behind))
         }
     }
@@ -83,7 +79,8 @@ fn skip_definitions(count: u8, bytes: &[u8]) -> Option<&[u8]>
     Some(rest)
 }
 
-// Splits off a byte that counts items of `size` bytes, and the items; what stands behind them comes second.
+// Splits off a byte that counts items of `size` bytes, and the items; what stands behind them
+// comes second.
 pub(crate) fn split_off(bytes: &[u8], size: u8) -> Option<(&[u8], &[u8])>
     ensures part { pair_view result ≡ part_answer size bytes.now }
     ensures short { IfSome result (λ part. length part.0.now ≤ 255 * size) }

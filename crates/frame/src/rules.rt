@@ -1,21 +1,21 @@
 // The rules of a setup: its pairs, its names and the number of its definitions or events.
 ghost use Rattle.std.specs.Prelude.{◌≡◌, ◌+◌, ◌≤◌, length};
 ghost use Rattle.actions.specs.Contents.{pairs_of, names_of};
-ghost use Rattle.frame.specs.Rules.{few, rules_answer, pair_added, pairs_answer, names_answer, fault_offset};
+ghost use Rattle.frame.specs.Rules.{rules_answer, pair_answer, pairs_answer, names_answer, fault_offset};
 ghost use Rattle.frame.specs.Systems.{system_view};
-ghost use Rattle.frame.specs.Reading.{setup_view, viewed};
+ghost use Rattle.frame.specs.Reading.{setup_view, result_view};
 
 use crate::fault::FrameFault;
 use crate::parts::Parts;
-use crate::setup::{EVENT_SIZE, Setup, System};
+use crate::setup::Setup;
 use actions::names::{NAME_LIMIT, Names};
 use actions::pairs::{PAIR_LIMIT, Pair, PairFault, Pairs};
-use nets::net::EVENT_LIMIT;
-use terms::terms::DEFINITION_LIMIT;
 
 // The setup of these parts, or the place of the first byte that breaks a rule.
 pub(crate) fn allowed(parts: Parts<'_>) -> Result<Setup<'_>, FrameFault>
-    ensures { viewed setup_view result ≡ rules_answer parts.entry.pairs.now parts.entry.names.now (system_view parts.entry.system) }
+    ensures { result_view setup_view result
+        ≡ rules_answer
+        parts.entry.pairs.now parts.entry.names.now (system_view parts.entry.system) }
 {
     let pairs = read_pairs(parts.pairs)?;
     let names_place = 3 + parts.pairs.len() as u16;
@@ -32,7 +32,7 @@ pub(crate) fn allowed(parts: Parts<'_>) -> Result<Setup<'_>, FrameFault>
 
 // Reads the pairs, which stand behind their count at place 2.
 fn read_pairs(bytes: &[u8]) -> Result<Pairs, FrameFault>
-    ensures { viewed pairs_of result ≡ pairs_answer bytes.now }
+    ensures { result_view pairs_of result ≡ pairs_answer bytes.now }
 {
     if bytes.len() > 2 * PAIR_LIMIT {
         return Err(FrameFault::BadSetup(2));
@@ -55,7 +55,7 @@ fn read_pairs(bytes: &[u8]) -> Result<Pairs, FrameFault>
 // The pairs and one more behind them, whose first byte stands at the place.
 fn with_pair(mut pairs: Pairs, pair: Pair, place: u16) -> Result<Pairs, FrameFault>
     requires { place ≤ 1024 }
-    ensures { viewed pairs_of result ≡ pair_added (pairs_of pairs) pair place }
+    ensures { result_view pairs_of result ≡ pair_answer (pairs_of pairs) pair place }
 {
     match pairs.add(pair) {
         Ok(()) => Ok(pairs),
@@ -76,7 +76,7 @@ fn offset(fault: PairFault) -> u16
 // Reads the names, which stand behind their count at the place.
 fn read_names(place: u16, bytes: &[u8]) -> Result<Names, FrameFault>
     requires { place ≤ 1024 }
-    ensures { viewed names_of result ≡ names_answer place bytes.now }
+    ensures { result_view names_of result ≡ names_answer place bytes.now }
 {
     if bytes.len() > NAME_LIMIT {
         return Err(FrameFault::BadSetup(place));
@@ -90,16 +90,4 @@ fn read_names(place: u16, bytes: &[u8]) -> Result<Names, FrameFault>
         place += 1;
     }
     Ok(names)
-}
-
-impl System<'_> {
-    // Whether there are not too many definitions or events.
-    fn is_few(&self) -> bool
-        ensures { result ≡ few (system_view self.now) }
-    {
-        match self {
-            System::Terms(definitions) => usize::from(definitions.count) <= DEFINITION_LIMIT,
-            System::Net(events) => events.bytes.len() <= EVENT_SIZE * EVENT_LIMIT,
-        }
-    }
 }

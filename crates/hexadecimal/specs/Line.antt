@@ -1,4 +1,4 @@
--- A line of hexadecimal text. Assumes nothing.
+-- A line of hexadecimal text.
 use Rattle.std.specs.Prelude.{ℕ, List, [], ◌∷◌, ◌++◌}
 use Rattle.hexadecimal.specs.Hex.{hex}
 

@@ -14,7 +14,8 @@ pub fn digit(value: u8) -> u8
 }
 
 // The value of a digit, in either case of its letter.
-// By its ranges and not by `to_digit`, which is of a `char` and answers a `u32`: two casts more, and one of them narrow.
+// By its ranges and not by `to_digit`, which is of a `char` and answers a `u32`: two casts more,
+// and one of them narrow.
 fn value(digit: u8) -> Option<u8>
     ensures { result ≡ value_of digit }
 {

@@ -3,7 +3,8 @@ ghost use Rattle.std.specs.Prelude.{◌≡◌, ◌++◌, length};
 ghost use Rattle.byte_strings.specs.Buffer.{copy_length, buffer_after_copy};
 ghost use Rattle.hexadecimal.specs.Line.{line};
 
-// Writes a line of two strings, one behind the other, over the front of `out` and answers its length; none where it does not fit.
+// Writes a line of two strings, one behind the other, over the front of `out`;
+// answers its length, or none, and `out` as it was, where it does not fit.
 pub fn write(front: &[u8], back: &[u8], out: &mut [u8]) -> Option<usize>
     ensures answer { result ≡ copy_length (line (front.now ++ back.now)) (length out.old) }
     ensures buffer { out.new ≡ buffer_after_copy (line (front.now ++ back.now)) out.old }

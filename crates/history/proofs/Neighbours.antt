@@ -1,4 +1,4 @@
--- Two neighbours in a list of rows, and two others in their place. Assumes nothing.
+-- Two neighbours in a list of rows, and two others in their place.
 use Rattle.std.proofs.Common.{◌≡◌, ℕ, ◌+◌, ◌-◌, ◌<◌, ◌≤◌, ◌≢◌, List, [], ◌∷◌, ◌++◌, length, get_or, take, drop, set, sym, ap, ◌∙◌, ap₂, append_assoc, arith}
 use Rattle.std.proofs.lemmas.List.{take-append-drop, drop_more, get_or-take, get_or_at, get_or-set_same, get_or-set_other, take-take, take_at, take-set-le, drop-take, drop-set-lt, length-set, length-take-le, length_push}
 use Rattle.steps.specs.Meaning.{Str}

@@ -1,4 +1,4 @@
--- Calls performed one by one, and their answers written one behind the other. Assumes nothing.
+-- Calls performed one by one, and their answers written one behind the other.
 use Rattle.std.proofs.Common.{◌≡◌, ℕ, ◌+◌, ◌<◌, ◌≤◌, leb, List, ◌∷◌, ◌++◌, map, length, get_or, take, drop, set, Result, sym, ap, ◌∙◌, arith}
 use Rattle.std.proofs.lemmas.List.{append-nil, append_assoc, map-append, map_push, length-map, drop-map, drop_more, take-append-drop, take_more_set, drop-set-lt, at_drop_all}
 use Rattle.std.proofs.lemmas.Bool.{cond-true, le-leb}

@@ -1,4 +1,4 @@
--- What is promised of plain calls among all, as it is said of them alone. Assumes nothing.
+-- What is promised of plain calls among all, as it is said of them alone.
 use Rattle.std.proofs.Common.{◌≡◌, List, [], ◌∷◌, map, length, sym, refl, ap, ◌∙◌, subst, ap₂}
 use Rattle.steps.specs.declared.fault.MaskFault.TheVariants.{Masked, Inner}
 use Rattle.steps.specs.declared.fault.SystemFault.TheVariants.{Impossible, StateTooLong}

@@ -1,4 +1,4 @@
--- Pages that the calls leave: none is released, and what an open one holds replays. Assumes nothing.
+-- Pages that the calls leave: none is released, and what an open one holds replays.
 use Rattle.std.proofs.Common.{◌≡◌, ℕ, ◌<◌, ◌≤◌, ◌≢◌, ◌⊎◌, List, map, length, get_or, set, replicate, Ok, sym, refl, ap, subst, inl, inr, arith}
 use Rattle.std.proofs.Math.ListN.{get_or-map}
 use Rattle.std.proofs.lemmas.List.{get_or-replicate, get_or_past, get_or-set_other}

@@ -1,4 +1,4 @@
--- The history of four sheets: what each call does to them, in words of runs, and when it is refused. Assumes nothing.
+-- The history of four sheets: what each call does to them, in words of runs, and when it is refused.
 use Rattle.std.specs.Prelude.{◌≡◌, ℕ, ◌+◌, ◌<◌, ◌≤◌, true, ◌≢◌, ◌⊎◌, ◌↔◌, List, [], ◌∷◌, ◌++◌, map, length, take, replicate, Some, Ok, Err, slice_index_or}
 use Rattle.steps.specs.Meaning.{Str, Transitions, Independence}
 use Rattle.steps.specs.Laws.{state_limit, step_limit}

@@ -1,4 +1,4 @@
--- Histories of plain calls, which open, add or withdraw: what each does to four sheets, in words of runs and of no exchanges. Assumes nothing.
+-- Histories of plain calls, which open, add or withdraw: what each does to four sheets, in words of runs and of no exchanges.
 use Rattle.std.specs.Prelude.{◌≡◌, ℕ, ◌<◌, ◌≤◌, true, List, [], ◌∷◌, ◌++◌, map, length, Ok, Err}
 use Rattle.steps.specs.Meaning.{Str, Transitions, Independence}
 use Rattle.steps.specs.Laws.{state_limit, step_limit}

@@ -1,4 +1,4 @@
--- What sheets report, in words of runs: where they are accepted, adds, withdrawals, prints and looks at all steps tell the sheet's end. Assumes nothing.
+-- What sheets report, in words of runs: the end of a sheet, as each accepted call that reports one tells it.
 use Rattle.std.specs.Prelude.{◌≡◌, ℕ, ◌≤◌, ◌≢◌, ◌↔◌, List, [], ◌∷◌, ◌++◌, length, take, Ok}
 use Rattle.steps.specs.Meaning.{Str, Transitions, Independence}
 use Rattle.steps.specs.Laws.{Laws, state_limit, step_limit}

@@ -1,4 +1,4 @@
--- What each of a list of calls is answered, and the pages that they leave, as the bench tells it call by call. Assumes nothing.
+-- What each of a list of calls is answered, and the pages that they leave, as the bench tells it call by call.
 use Rattle.std.specs.Prelude.{ℕ, cond, List, [], ◌∷◌, ◌++◌, length, drop, replicate, Some, None, Ok, Err, Option, nat_le, slice_index}
 use Rattle.steps.specs.Meaning.{Transitions, Independence}
 use Rattle.bench.specs.declared.bench.Bench.{Bench}

@@ -1,4 +1,4 @@
--- Calls, answers and sheets as the history sees them. Assumes nothing.
+-- Calls, answers and sheets as the history sees them.
 use Rattle.std.specs.Prelude.{ℕ, ◌<◌, List, map, length, Some, None, Ok, Err, Option, Result}
 use Rattle.steps.specs.Meaning.{Transitions, Independence}
 use Rattle.bench.specs.declared.bench.Bench.{Bench}

@@ -1,7 +1,8 @@
-// What sheets report where a call is accepted.
+// What a call that is accepted reports of its sheet.
 ghost use Rattle.history.specs.Reports.{SheetsReport};
 
-// Adds, withdrawals, prints and looks at all steps tell the end of a sheet's run, and looks at its first steps the end of those.
+// An add, a withdrawal, a print and a look at all steps report the end of the run of the sheet, and a look at the first
+// steps the end of those.
 pub fn sheets_report_their_ends()
     ensures { SheetsReport }
 {}

@@ -1,4 +1,4 @@
--- What comes of a step that is carried through a list, as the theory of joins has it. Assumes nothing.
+-- What comes of a step that is carried through a list, as the theory of joins has it.
 use Rattle.std.specs.Prelude.{List, Some, None, Ok, Err, Option, Result}
 use Rattle.steps.specs.Meaning.{Str}
 use Rattle.runs.specs.Join.{Carried}

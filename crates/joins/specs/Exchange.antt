@@ -1,4 +1,4 @@
--- Neighbours exchanged, as strings, or the refusal of a step that is too long. Assumes nothing.
+-- Neighbours exchanged, as strings, or the refusal of a step that is too long.
 use Rattle.std.specs.Prelude.{Some, None, Ok, Err, Option, Result}
 use Rattle.steps.specs.Meaning.{Str, Independence}
 use Rattle.steps.specs.Laws.{step_limit}

@@ -1,4 +1,4 @@
--- What a join adds to a list, as the theory of joins has it. Assumes nothing.
+-- What a join adds to a list, as the theory of joins has it.
 use Rattle.std.specs.Prelude.{ℕ, List, Ok, Err, Result}
 use Rattle.steps.specs.Meaning.{Str}
 use Rattle.runs.specs.Join.{Joined}

@@ -1,4 +1,4 @@
--- What a step does that meets another, as the theory of joins has it. Assumes nothing.
+-- What a step does that meets another, as the theory of joins has it.
 use Rattle.std.specs.Prelude.{Some, None, Ok, Err, Option, Result}
 use Rattle.runs.specs.Join.{Met}
 use Rattle.runs.specs.Join.Met.{same, passes, hits}

@@ -1,4 +1,4 @@
--- Steps within the limit, which the questions to a step system take. Assumes nothing.
+-- Steps within the limit, which the questions to a step system take.
 use Rattle.std.specs.Prelude.{◌≡◌, ◌≤◌, true, List, [], ◌∷◌, length}
 use Rattle.steps.specs.Meaning.{Str, Transitions}
 use Rattle.steps.specs.Laws.{step_limit}

@@ -1,5 +1,4 @@
 pub mod Mask
 pub mod Renaming
-pub mod MaskLaws
-pub mod RenamingLaws
 pub mod Promises
+pub mod Laws

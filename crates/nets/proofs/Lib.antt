@@ -1,1 +1,7 @@
 mod Stored
+mod Spelling
+mod Naming
+mod Sets
+pub mod ByRules
+pub mod Places
+mod Answered

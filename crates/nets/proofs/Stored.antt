@@ -7,7 +7,7 @@ use Rattle.steps.specs.Meaning.{Str}
 use Rattle.nets.specs.declared.event.Event.{Event}
 use Rattle.nets.specs.declared.event.EventFault.{EventFault}
 use Rattle.nets.specs.declared.event.EventFault.TheVariants.{Full}
-use Rattle.nets.specs.Events.{event_fault, narrow, sound_event, all_sound, add_fault, add_answer}
+use Rattle.nets.specs.Events.{event_fault, is_narrow, sound_event, all_sound, add_fault, add_answer}
 use Rattle.nets.specs.System.{read_event}
 
 pub full : (es : List Event) (e : Event) → 48 ≤ length es → add_fault es e ≡ Some Full
@@ -21,7 +21,8 @@ pub faultless : (o : Option EventFault) → Ok tt ≡ add_answer o → o ≡ Non
 faultless None e = refl
 faultless (Some f) e = let z : ◌≡◌ {A = ℕ} 0 1 = cc in absurd (omega arith)
 
-pub all_sound_push : (es : List Event) (e : Event) → all_sound es ≡ true → sound_event e ≡ true → all_sound (es ++ e ∷ []) ≡ true
+pub all_sound_push : (es : List Event) (e : Event) → all_sound es ≡ true → sound_event e ≡ true
+    → all_sound (es ++ e ∷ []) ≡ true
 all_sound_push [] e h k = and_from (sound_event e) true k refl
 all_sound_push (f ∷ es) e h k =
     let parts = and_parts (sound_event f) (all_sound es) h in
@@ -29,27 +30,15 @@ all_sound_push (f ∷ es) e h k =
 
 pub sound_added : (e : Event) → e.before < 2 ^ 64 → e.after < 2 ^ 64 → event_fault e ≡ None → sound_event e ≡ true
 sound_added e low high none =
-    and_from (narrow e) (not (is_some (event_fault e))) (and_from (ltb e.before (2 ^ 64)) (ltb e.after (2 ^ 64)) (lt-ltb e.before (2 ^ 64) low) (lt-ltb e.after (2 ^ 64) high)) (ap (λ (o : Option EventFault). not (is_some o)) none)
+    and_from (is_narrow e) (not (is_some (event_fault e)))
+    (and_from (ltb e.before (2 ^ 64)) (ltb e.after (2 ^ 64)) (lt-ltb e.before (2 ^ 64) low)
+    (lt-ltb e.after (2 ^ 64) high)) (ap (λ (o : Option EventFault). not (is_some o)) none)
 
 -- a sound event behind sound ones, where there is room
 module _ (es : List Event) (e : Event) (space : length es < 48) where
   pub stored : take 48 (es ++ e ∷ []) ≡ es ++ e ∷ []
   stored = pushed 48 es e space
 
-  pub stored_sound : all_sound es ≡ true → e.before < 2 ^ 64 → e.after < 2 ^ 64 → event_fault e ≡ None → all_sound (take 48 (es ++ e ∷ [])) ≡ true
+  pub stored_sound : all_sound es ≡ true → e.before < 2 ^ 64 → e.after < 2 ^ 64 → event_fault e ≡ None
+      → all_sound (take 48 (es ++ e ∷ [])) ≡ true
   stored_sound sound low high none = ap all_sound stored ∙ all_sound_push es e sound (sound_added e low high none)
-
--- what a string that names an event is read as, by its first number and its length
-pub beyond : (es : List Event) (x : Str) → 0 < length x → length es ≤ get_or x 0 0 → read_event es x ≡ Err 0
-beyond es [] some past = absurd (omega arith)
-beyond es (k ∷ x) some past = rw (slice_get_past es k past)
-
-pub followed : (es : List Event) (x : Str) → 1 < length x → get_or x 0 0 < length es → read_event es x ≡ Err 1
-followed es [] long below = absurd (omega arith)
-followed es (k ∷ []) long below = absurd (omega arith)
-followed es (k ∷ b ∷ x) long below = rw (slice_get-get_or es k (record { action = 0; before = 0; after = 0 }) below)
-
-pub named : (es : List Event) (x : Str) → 0 < length x → length x ≤ 1 → get_or x 0 0 < length es → read_event es x ≡ Ok (get_or es (get_or x 0 0) (record { action = 0; before = 0; after = 0 }))
-named es [] some short below = absurd (omega arith)
-named es (k ∷ []) some short below = rw (slice_get-get_or es k (record { action = 0; before = 0; after = 0 }) below)
-named es (k ∷ b ∷ x) some short below = absurd (omega arith)

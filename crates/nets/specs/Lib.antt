@@ -1,11 +1,9 @@
 pub mod Marking
+pub mod Conditions
 pub mod Events
 pub mod Firing
 pub mod Contents
 pub mod System
+pub mod Rules
+pub mod RuleLaws
 pub mod Laws
-pub mod Markings
-pub mod Cases
-pub mod Moves
-pub mod FiringLemmas
-pub mod Bits

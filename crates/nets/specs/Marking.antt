@@ -1,4 +1,4 @@
--- Markings: which conditions hold, as one number and as eight bytes. Assumes nothing.
+-- Markings: which conditions hold, as one number and as eight bytes.
 use Rattle.std.specs.Prelude.{◌≡◌, ℕ, ◌/◌, ◌%◌, ◌^◌, min, Bool, ◌&&◌, [], ◌∷◌, length, Ok, Err, Result, ◌==◌, if◌then◌else◌}
 use Rattle.std.proofs.Math.Pow.{are_bytes}
 use Rattle.std.specs.Int.Digits.{number_from_digits}
@@ -17,6 +17,7 @@ bytes_of m =
 abbrev pub eight_bytes : Str → Bool
 eight_bytes s = length s == 8 && are_bytes s
 
--- the marking that a string stands for, or the place where a string of bytes ends too early or goes on too long
+-- the marking that a string stands for, or the place where a string of bytes ends too early or goes
+-- on too long
 abbrev pub read_marking : Str → Result ℕ ℕ
 read_marking s = if eight_bytes s then Ok (number_from_digits 256 s) else Err (min (length s) 8)

@@ -1,4 +1,4 @@
--- A net as a step system: markings are its states, and the numbers of its events its steps. Assumes nothing.
+-- A net as a step system: markings are its states, and the numbers of its events its steps.
 use Rattle.std.specs.Prelude.{ℕ, false, List, [], ◌∷◌, is_ok, Some, None, Ok, Err, Option, Result, if◌then◌else◌}
 use Rattle.std.specs.List.{slice_get}
 use Rattle.std.specs.Result.{result_err}
@@ -9,18 +9,19 @@ use Rattle.steps.specs.declared.label.Label.{Label}
 use Rattle.steps.specs.Meaning.{Str, Transitions, Independence}
 use Rattle.nets.specs.declared.event.Event.{Event}
 use Rattle.nets.specs.Marking.{bytes_of, read_marking}
-use Rattle.nets.specs.Firing.{fired, apart}
+use Rattle.nets.specs.Firing.{fire, apart_from}
 
--- the event that a number stands for, if nothing follows the number; else the place that does not fit
-abbrev pub found : Option Event → Str → Result Event ℕ
-found None x = Err 0
-found (Some e) [] = Ok e
-found (Some e) (b ∷ x) = Err 1
+-- the event that a number stands for, if nothing follows the number; else the place that does not
+-- fit
+abbrev pub lone_event : Option Event → Str → Result Event ℕ
+lone_event None x = Err 0
+lone_event (Some e) [] = Ok e
+lone_event (Some e) (b ∷ x) = Err 1
 
 -- the event that a string names by its number, or the place where it names none
 abbrev pub read_event : List Event → Str → Result Event ℕ
 read_event es [] = Err 0
-read_event es (k ∷ x) = found (slice_get es k) x
+read_event es (k ∷ x) = lone_event (slice_get es k) x
 
 -- what the event shows
 abbrev pub label_of : Result Event ℕ → Label
@@ -28,20 +29,20 @@ label_of (Ok e) = record { action = e.action }
 label_of (Err p) = record { action = 0 }
 
 -- the marking that follows, as bytes, or that the event does not fit
-abbrev pub after_firing : Option ℕ → Result Str ℕ
-after_firing (Some m) = Ok (bytes_of m)
-after_firing None = Err 0
+abbrev pub spelled_state : Option ℕ → Result Str ℕ
+spelled_state (Some m) = Ok (bytes_of m)
+spelled_state None = Err 0
 
-abbrev pub follow : Result Event ℕ → Result ℕ ℕ → Result Str ℕ
-follow (Ok e) (Ok m) = after_firing (fired e m)
-follow (Ok e) (Err p) = Err 0
-follow (Err p) r = Err 0
+abbrev pub next_state : Result Event ℕ → Result ℕ ℕ → Result Str ℕ
+next_state (Ok e) (Ok m) = spelled_state (fire e m)
+next_state (Ok e) (Err p) = Err 0
+next_state (Err p) r = Err 0
 
 -- an event stays itself after an independent one
-abbrev pub remains : Str → Result Event ℕ → Result Event ℕ → Option Str
-remains x (Ok e) (Ok f) = if apart e f then Some x else None
-remains x (Ok e) (Err p) = None
-remains x (Err p) r = None
+abbrev pub rest_of : Str → Result Event ℕ → Result Event ℕ → Option Str
+rest_of x (Ok e) (Ok f) = if apart_from e f then Some x else None
+rest_of x (Ok e) (Err p) = None
+rest_of x (Err p) r = None
 
 abbrev pub net_transitions : List Event → Transitions
 net_transitions es =
@@ -49,7 +50,7 @@ net_transitions es =
       state = λ s. is_ok (read_marking s);
       step = λ x. is_ok (read_event es x);
       label = λ x. label_of (read_event es x);
-      next = λ a x. follow (read_event es x) (read_marking a);
+      next = λ a x. next_state (read_event es x) (read_marking a);
       bad_state = λ s. result_err (read_marking s);
       bad_step = λ x. result_err (read_event es x);
       hidden = λ x. false;
@@ -58,8 +59,8 @@ net_transitions es =
 abbrev pub net_independence : List Event → Independence
 net_independence es =
     record {
-      left = λ x y. remains x (read_event es x) (read_event es y);
-      back = λ x z. remains z (read_event es x) (read_event es z);
+      left = λ x y. rest_of x (read_event es x) (read_event es y);
+      back = λ x z. rest_of z (read_event es x) (read_event es z);
     }
 
 -- what reading a state, and reading a step, answers

@@ -6,3 +6,6 @@ pub mod event;
 mod marking;
 pub mod net;
 pub mod system;
+
+pub use event::{Event, EventFault};
+pub use net::Net;

@@ -1,4 +1,4 @@
--- What the nodes of two proofs tell of what is left of the first after the second. Assumes nothing.
+-- What the nodes of two proofs tell of the residual of one after the other. Assumes nothing.
 use Rattle.std.proofs.Common.{◌≡◌, ℕ, Bool, true, false, cond, Some, None, Ok, Option, Result, nat_eq, refl, ap, ap₂, ◌∙◌}
 use Rattle.steps.specs.Meaning.{Str}
 use Rattle.ccs.specs.Syntax.{Proof}

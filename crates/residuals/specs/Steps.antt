@@ -5,7 +5,7 @@ use Rattle.ccs.specs.Reading.{read_proof}
 use Rattle.ccs.specs.Residual.{residual, origin}
 use Rattle.ccs.specs.System.{of_both}
 
--- what is left of the first after the second, and back, of strings that are proofs; none of others
+-- residuals and origins of strings that are proofs; none of others
 abbrev pub residual_of : Str → Str → Option Str
 residual_of x y = of_both residual (read_proof x) (read_proof y)
 

@@ -1,4 +1,4 @@
--- What carrying and joining mean, of every step system. Assumes nothing.
+-- What carrying and joining mean, of every step system.
 use Rattle.std.proofs.Common.{sym, subst, append-nil, arith, length-append}
 use Rattle.runs.specs.Run.{Run}
 use Rattle.runs.specs.Exchange.Exchanged.{none}

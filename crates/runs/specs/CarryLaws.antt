@@ -1,4 +1,4 @@
--- Carrying does not tell exchanged lists apart, and steps in front cancel, in every step system. Assumes nothing.
+-- Carrying does not tell exchanged lists apart, and steps in front cancel, in every step system.
 use Rattle.std.specs.Prelude.{◌≡◌, List, ◌++◌}
 use Rattle.steps.specs.Meaning.{Str, Transitions, Independence}
 use Rattle.steps.specs.Laws.{Laws}

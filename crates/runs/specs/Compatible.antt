@@ -1,4 +1,4 @@
--- When runs from one start agree: some run from there extends both. Assumes nothing.
+-- When runs from one start agree: some run from there extends both.
 use Rattle.std.specs.Prelude.{List}
 use Rattle.steps.specs.Meaning.{Str, Transitions, Independence}
 use Rattle.runs.specs.Run.{Run}

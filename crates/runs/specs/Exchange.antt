@@ -1,4 +1,4 @@
--- Exchanging independent neighbours in a list of steps, and when one list extends another. Assumes nothing.
+-- Exchanging independent neighbours in a list of steps, and when one list extends another.
 use Rattle.std.specs.Prelude.{◌≡◌, List, ◌∷◌, ◌++◌, Some}
 use Rattle.steps.specs.Meaning.{Str, Independence}
 

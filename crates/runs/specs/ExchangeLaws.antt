@@ -1,4 +1,4 @@
--- What holds of exchanges in every step system. Assumes nothing.
+-- What holds of exchanges in every step system.
 use Rattle.std.specs.Prelude.{◌≡◌, List, ◌∷◌, ◌++◌, length, Some}
 use Rattle.steps.specs.Meaning.{Str, Transitions, Independence}
 use Rattle.steps.specs.Laws.{Laws}

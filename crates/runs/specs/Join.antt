@@ -1,4 +1,4 @@
--- Joining lists of steps: which steps of one still have to follow the other. Assumes nothing.
+-- Joining lists of steps: which steps of one still have to follow the other.
 use Rattle.std.specs.Prelude.{ℕ, suc, true, false, List, [], ◌∷◌, Some, None, Ok, Err, Option, Result}
 use Rattle.std.specs.Str.{bytes_eq}
 use Rattle.steps.specs.Meaning.{Str, Independence}

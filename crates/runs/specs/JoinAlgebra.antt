@@ -1,4 +1,4 @@
--- Joining as an operation, up to exchanges: with itself, with what it extends, of exchanged lists, and with a third list. Assumes nothing.
+-- Joining as an operation, up to exchanges: with itself, with what it extends, of exchanged lists, and with a third list.
 use Rattle.std.specs.Prelude.{◌≡◌, ◌↔◌, List, [], ◌++◌, length, Ok}
 use Rattle.steps.specs.Meaning.{Str, Transitions, Independence}
 use Rattle.steps.specs.Laws.{Laws}

@@ -1,4 +1,4 @@
--- What carrying and joining mean for exchanges and runs, in every step system. Assumes nothing.
+-- What carrying and joining mean for exchanges and runs, in every step system.
 use Rattle.std.specs.Prelude.{◌≡◌, ◌+◌, List, [], ◌∷◌, ◌++◌, length, Ok}
 use Rattle.steps.specs.Meaning.{Str, Transitions, Independence}
 use Rattle.steps.specs.Laws.{Laws}

@@ -1,4 +1,4 @@
--- A join is the least list that extends both, and clashes only where no run extends both, in every step system. Assumes nothing.
+-- A join is the least list that extends both, and clashes only where no run extends both, in every step system.
 use Rattle.std.specs.Prelude.{◌≡◌, ℕ, ◌<◌, ◌↔◌, List, ◌++◌, take, Ok, Err}
 use Rattle.steps.specs.Meaning.{Str, Transitions, Independence}
 use Rattle.steps.specs.Laws.{Laws}

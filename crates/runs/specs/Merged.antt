@@ -1,4 +1,4 @@
--- The least list of steps that extends two others, and the order in which it takes them. Assumes nothing.
+-- The least list of steps that extends two others, and the order in which it takes them.
 use Rattle.std.specs.Prelude.{ℕ, List, ◌++◌, take}
 use Rattle.steps.specs.Meaning.{Str, Independence}
 use Rattle.runs.specs.Exchange.{Extends}

@@ -1,4 +1,4 @@
--- A run is a start and any number of steps, each possible in the state that the earlier ones lead to; its end is the state after them all. Assumes nothing.
+-- Runs: from a start, step by step, each where it is possible; and the end that a run comes to.
 use Rattle.std.specs.Prelude.{◌≡◌, true, ◌↔◌, List, [], ◌∷◌, ◌++◌, Ok}
 use Rattle.steps.specs.Meaning.{Str, Transitions, Independence}
 use Rattle.steps.specs.Laws.{Laws}

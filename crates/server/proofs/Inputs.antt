@@ -4,22 +4,22 @@ use Rattle.std.proofs.lemmas.List.{take_all, take-append-le, length-take-le}
 use Rattle.std.proofs.lemmas.Bool.{cases_lt, ne_eqb, eq-eqb, cond-true, cond-false}
 use Rattle.byte_strings.specs.Buffer.{Str}
 use Rattle.hexadecimal.specs.Digits.{byte_of}
-use Rattle.hexadecimal.specs.Hex.{before, sound, all_or_count, read_answer}
+use Rattle.hexadecimal.specs.Hex.{byte_then, sound_bytes, all_or_count, read_answer}
 use Rattle.steps.proofs.Answered.{some_not_none}
 use Rattle.server.specs.Text.{text_limit}
 use Rattle.server.specs.Answer.{Model, read_reply, line_reply, reply_length, reply_buffer, reply_model}
 use Rattle.server.specs.Session.{SameAnswer, line_limit, taken_length, taken_buffer, taken_model, taken_line}
 
 -- the first k bytes are spelled by the first 2k characters
-sound_take : (k : ℕ) (l : Str) → take k (sound (take (2 * k + 1) l)) ≡ take k (sound l)
+sound_take : (k : ℕ) (l : Str) → take k (sound_bytes (take (2 * k + 1) l)) ≡ take k (sound_bytes l)
 sound_take zero l = refl
-sound_take (suc k) [] = let e : 2 * suc k + 1 ≡ suc (2 * k + 2) = omega arith in ap (λ n. take (suc k) (sound (take n []))) e
-sound_take (suc k) (a ∷ []) = let e : 2 * suc k + 1 ≡ suc (suc (2 * k + 1)) = omega arith in ap (λ n. take (suc k) (sound (take n (a ∷ [])))) e
+sound_take (suc k) [] = let e : 2 * suc k + 1 ≡ suc (2 * k + 2) = omega arith in ap (λ n. take (suc k) (sound_bytes (take n []))) e
+sound_take (suc k) (a ∷ []) = let e : 2 * suc k + 1 ≡ suc (suc (2 * k + 1)) = omega arith in ap (λ n. take (suc k) (sound_bytes (take n (a ∷ [])))) e
 sound_take (suc k) (a ∷ b ∷ s) =
     let e : 2 * suc k + 1 ≡ suc (suc (2 * k + 1)) = omega arith in
-    ap (λ n. take (suc k) (sound (take n (a ∷ b ∷ s)))) e ∙ go (byte_of a b) (sound_take k s)
+    ap (λ n. take (suc k) (sound_bytes (take n (a ∷ b ∷ s)))) e ∙ go (byte_of a b) (sound_take k s)
   where
-    go : (o : Option ℕ) → take k (sound (take (2 * k + 1) s)) ≡ take k (sound s) → take (suc k) (before o (sound (take (2 * k + 1) s))) ≡ take (suc k) (before o (sound s))
+    go : (o : Option ℕ) → take k (sound_bytes (take (2 * k + 1) s)) ≡ take k (sound_bytes s) → take (suc k) (byte_then o (sound_bytes (take (2 * k + 1) s))) ≡ take (suc k) (byte_then o (sound_bytes s))
     go None e = refl
     go (Some v) e = ap (λ t. v ∷ t) e
 
@@ -34,8 +34,8 @@ same_test l bs short =
 same_read : (l : Str) → read_answer (take line_limit l) 1024 ≡ read_answer l 1024
 same_read l =
     let bytes = sound_take 1024 l in
-    let short : length (take 1024 (sound l)) ≤ 1024 = rw length-take (omega arith) in
-    ap (all_or_count (take line_limit l)) bytes ∙ ap (λ b. cond b (Ok (take 1024 (sound l))) (Err (length (take 1024 (sound l))))) (same_test l (take 1024 (sound l)) short)
+    let short : length (take 1024 (sound_bytes l)) ≤ 1024 = rw length-take (omega arith) in
+    ap (all_or_count (take line_limit l)) bytes ∙ ap (λ b. cond b (Ok (take 1024 (sound_bytes l))) (Err (length (take 1024 (sound_bytes l))))) (same_test l (take 1024 (sound_bytes l)) short)
 
 pub same_answer : SameAnswer
 same_answer m l = ap (read_reply m) (same_read l)

@@ -20,7 +20,7 @@ use Rattle.frame.specs.Frames.FrameView.{setup, open_sheet, add, swap, withdraw,
 use Rattle.frame.specs.Reading.{frame_answer}
 use Rattle.server.specs.declared.server.Server.{Server}
 use Rattle.server.specs.Text.{refusal_line, call_text, print_text, text_limit}
-use Rattle.server.specs.Layered.{Layered, layered_of, layered_transitions, layered_independence}
+use Rattle.systems.specs.Layered.{Layered, layered_of, layered_transitions, layered_independence}
 use Rattle.server.specs.LayeredSetup.{layered_answer}
 
 -- the system, and the four sheets
@@ -38,6 +38,11 @@ pub record Reply : Type 0 where
 
 abbrev pub refused : Model → FrameFault → Reply
 refused m f = record { text = refusal_line (frame_refusal f); model = m }
+
+-- what a setup tells that leaves this model
+abbrev pub set_up_answer : Result (Unit {0}) FrameFault → Model → Reply
+set_up_answer (Ok done) m = record { text = line (0 ∷ []); model = m }
+set_up_answer (Err f) m = refused m f
 
 -- a setup replaces the system and leaves the sheets
 abbrev pub setup_reply : Model → Result Layered FrameFault → Reply

@@ -2,7 +2,6 @@ pub mod Text
 pub mod Setup
 pub mod TermsSetup
 pub mod DesignSetup
-pub mod Layered
 pub mod LayeredSetup
 pub mod Answer
 pub mod Session

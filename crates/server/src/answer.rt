@@ -10,13 +10,13 @@ ghost use Rattle.server.specs.Answer.{model_of, line_reply, reply_length, reply_
 use crate::fault::Fault;
 use crate::server::Server;
 use crate::text::TEXT_LIMIT;
-use crate::{setup, text};
+use crate::text;
 use actions::names::Names;
 use actions::pairs::Pairs;
 use bench::bench::Bench;
 use frame::fault::FrameFault;
 use frame::frame::{FRAME_LIMIT, Frame};
-use systems::terms_or_net::TermsOrNet;
+use systems::TermsOrNet;
 use terms::terms::Terms;
 
 impl Server {
@@ -26,7 +26,7 @@ impl Server {
     {
         let terms = TermsOrNet::Terms(Terms::new(0));
         Server {
-            system: setup::layered(terms, Pairs::none(), Names::none()),
+            system: systems::layered(terms, Pairs::none(), Names::none()),
             bench: Bench::new(),
         }
     }

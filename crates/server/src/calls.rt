@@ -1,9 +1,9 @@
 // The calls of frames, each on the step system and the bench, with its answer as text.
 ghost use Rattle.std.specs.Prelude.{◌≡◌};
 ghost use Rattle.frame.specs.Frames.{WithinRules, sheet_of};
-ghost use Rattle.frame.specs.Reading.{frame_view};
+ghost use Rattle.frame.specs.Reading.{frame_view, setup_view};
 ghost use Rattle.server.specs.Text.{Answers};
-ghost use Rattle.server.specs.Answer.{model_of, named_standing, frame_reply};
+ghost use Rattle.server.specs.Answer.{model_of, named_standing, frame_reply, set_up_answer};
 
 use crate::fault::Fault;
 use crate::server::Server;
@@ -11,7 +11,9 @@ use crate::text::TEXT_LIMIT;
 use crate::{setup, text};
 use bench::fault::BenchFault;
 use bench::sheet::Standing;
+use frame::fault::FrameFault;
 use frame::frame::Frame;
+use frame::setup::Setup;
 
 impl Server {
     // Performs the call that a frame names, and writes what it answers over the front of `out`.
@@ -30,7 +32,7 @@ impl Server {
         // By the frames themselves and no table of functions: each has data of its own.
         let n = match (self.standing(frame), frame) {
             (_, Frame::Setup(setup)) => {
-                self.system = setup::build(setup)?;
+                self.set_up(setup)?;
                 0
             }
             (Some(Standing::Blank | Standing::Open), Frame::Open { sheet, state }) => {
@@ -71,6 +73,18 @@ impl Server {
             (None, _) => return Err(BenchFault::NoSheet(1).into()),
         };
         Ok(text::accept(&end[0..n], out))
+    }
+
+    // Replaces the system by that of a setup; where that is refused, the system stays.
+    // It stays a call: the new system is large, and its place would be cleared for each frame.
+    #[inline(never)]
+    fn set_up(&mut self, setup: &Setup<'_>) -> Result<(), FrameFault>
+        requires { WithinRules (setup_view setup.now) }
+        ensures { set_up_answer result (model_of self.new)
+            ≡ frame_reply (model_of self.old) (setup_view setup.now) }
+    {
+        self.system = setup::build(setup)?;
+        Ok(())
     }
 
     // The standing of the sheet that a frame names, if there is such a sheet.

@@ -1,4 +1,4 @@
--- On a sheet of the right standing, no call is refused for a standing. Assumes nothing.
+-- On a sheet of the right standing, no call is refused for a standing.
 use Rattle.std.proofs.Common.{◌≡◌, ℕ, ◌+◌, ◌-◌, Bool, true, false, cond, ltb, leb, ◌&&◌, List, [], ◌∷◌, get_or, length, take, Some, None, Ok, Err, IfErr, Option, Result, sym, refl, subst, arith}
 use Rattle.std.specs.Str.{bytes_eq}
 use Rattle.byte_strings.specs.Buffer.{count}

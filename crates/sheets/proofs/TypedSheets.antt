@@ -1,4 +1,4 @@
--- What the types of sheets say of the sheets that they hold. Assumes nothing.
+-- What the types of sheets say of the sheets that they hold.
 use Rattle.std.proofs.Common.{◌≡◌, Ok, Err, sym, ap, subst, ◌∙◌}
 use Rattle.std.proofs.Props.{props}
 use Rattle.steps.proofs.Answered.{ok_not_err}

@@ -1,4 +1,4 @@
--- The pages of open and released sheets, and what the calls that give out or use up such a sheet are answered. Assumes nothing.
+-- The pages of open and released sheets, and what the calls that give out or use up such a sheet are answered.
 use Rattle.std.specs.Prelude.{Ok, Err, Result}
 use Rattle.bench.specs.declared.fault.BenchFault.{BenchFault}
 use Rattle.bench.specs.Page.{Page, page_of}

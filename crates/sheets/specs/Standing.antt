@@ -1,4 +1,4 @@
--- A refusal for which no sheet's standing is the reason. Assumes nothing.
+-- A refusal for which no sheet's standing is the reason.
 use Rattle.std.specs.Prelude.{◌≢◌}
 use Rattle.bench.specs.declared.fault.BenchFault.{BenchFault}
 use Rattle.bench.specs.Refusals.{bench_refusal}

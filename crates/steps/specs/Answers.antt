@@ -1,6 +1,11 @@
--- What each question to a step system answers: the meaning, or the first refusal in order. Assumes nothing.
+-- What each question to a step system answers.
+-- An answer is the meaning of what is asked for, or else the first refusal in this order:
+-- a string is no step, a step is masked, a string is no state, the step is not possible, the string
+-- that would be answered is too long. Two steps are both asked for their shape, the first before
+-- the second, before either is asked for its mask.
 use Rattle.std.specs.Prelude.{ℕ, min, Bool, length, is_some, Some, None, Ok, Err, Option, Result, nat_le, if◌then◌else◌}
 use Rattle.steps.specs.declared.label.Label.{Label}
+use Rattle.steps.specs.declared.fault.SystemFault.{SystemFault}
 use Rattle.steps.specs.declared.fault.SystemFault.TheVariants.{NoState, NoStep, Impossible, StateTooLong, StepTooLong}
 use Rattle.steps.specs.declared.fault.MaskFault.{MaskFault}
 use Rattle.steps.specs.declared.fault.MaskFault.TheVariants.{Masked, Inner}
@@ -16,13 +21,18 @@ first None r = r
 abbrev pub told_length : ℕ → ℕ
 told_length n = min n 65535
 
+-- the refusal at a place, where there is one
+abbrev pub refusal_at : (ℕ → SystemFault) → Option ℕ → Option MaskFault
+refusal_at fault None = None
+refusal_at fault (Some p) = Some (Inner (fault p))
+
 module _ (t : Transitions) where
   -- refused as a state, refused as a step, hidden by a mask
   abbrev pub state_refusal : Str → Option MaskFault
-  state_refusal s = elim (t.bad_state s) [ None ↦ None | Some p ↦ Some (Inner (NoState p)) ]
+  state_refusal s = refusal_at NoState (t.bad_state s)
 
   abbrev pub step_refusal : Str → Option MaskFault
-  step_refusal x = elim (t.bad_step x) [ None ↦ None | Some p ↦ Some (Inner (NoStep p)) ]
+  step_refusal x = refusal_at NoStep (t.bad_step x)
 
   abbrev pub hidden_refusal : Str → Option MaskFault
   hidden_refusal x = if t.hidden x then Some Masked else None
@@ -38,7 +48,9 @@ module _ (t : Transitions) where
 
 -- a state that follows, where it fits the limit and a buffer of n bytes
 abbrev pub fitting_state : Str → ℕ → Result Str MaskFault
-fitting_state b n = if nat_le (length b) (min n state_limit) then Ok b else Err (Inner (StateTooLong (told_length (length b))))
+fitting_state b n =
+    if nat_le (length b) (min n state_limit) then Ok b
+    else Err (Inner (StateTooLong (told_length (length b))))
 
 abbrev pub move_answer : Result Str ℕ → ℕ → Result Str MaskFault
 move_answer (Err p) n = Err (Inner (Impossible p))
@@ -46,11 +58,20 @@ move_answer (Ok b) n = fitting_state b n
 
 -- the state after a by x, asked for in a buffer of n bytes
 abbrev pub next_answer : Transitions → Str → Str → ℕ → Result Str MaskFault
-next_answer t a x n = first (step_refusal t x) (first (hidden_refusal t x) (first (state_refusal t a) (move_answer (t.next a x) n)))
+next_answer t a x n =
+    first (step_refusal t x)
+    (first (hidden_refusal t x)
+    (first (state_refusal t a)
+    (move_answer (t.next a x) n)))
 
--- what comes before an answer on two steps: both are asked for their shape before either is asked for its mask
-abbrev pub both_answer : {A : Type 0} → Transitions → Str → Str → Result A MaskFault → Result A MaskFault
-both_answer t x y r = first (step_refusal t x) (first (step_refusal t y) (first (hidden_refusal t x) (first (hidden_refusal t y) r)))
+-- what comes before an answer on two steps
+abbrev pub both_answer : {A : Type 0} → (t : Transitions) (x y : Str) → Result A MaskFault
+    → Result A MaskFault
+both_answer t x y r =
+    first (step_refusal t x)
+    (first (step_refusal t y)
+    (first (hidden_refusal t x)
+    (first (hidden_refusal t y) r)))
 
 abbrev pub independent_answer : Transitions → Independence → Str → Str → Result Bool MaskFault
 independent_answer t i x y = both_answer t x y (Ok (is_some (i.left x y)))
@@ -58,9 +79,11 @@ independent_answer t i x y = both_answer t x y (Ok (is_some (i.left x y)))
 -- a step that is answered, where it fits the limit and a buffer of n bytes
 abbrev pub fitting_step : Option Str → ℕ → Result (Option Str) MaskFault
 fitting_step None n = Ok None
-fitting_step (Some z) n = if nat_le (length z) (min n step_limit) then Ok (Some z) else Err (Inner (StepTooLong (told_length (length z))))
+fitting_step (Some z) n =
+    if nat_le (length z) (min n step_limit) then Ok (Some z)
+    else Err (Inner (StepTooLong (told_length (length z))))
 
--- what is left of x after y, and back for x and z
+-- what is left of x after y, and the step of which z is left after x; none where there is none
 abbrev pub left_answer : Transitions → Independence → Str → Str → ℕ → Result (Option Str) MaskFault
 left_answer t i x y n = both_answer t x y (fitting_step (i.left x y) n)
 

@@ -1,4 +1,4 @@
--- What a step system means, on byte strings of any length. Assumes nothing.
+-- What a step system means, on byte strings of any length.
 use Rattle.std.specs.Prelude.{ℕ, Bool, Option, Result}
 pub use Rattle.byte_strings.specs.Buffer.{Str}
 use Rattle.steps.specs.declared.label.Label.{Label}
@@ -19,9 +19,9 @@ pub record Transitions : Type 0 where
   -- whether a mask hides the string, which would be a step without it
   pub hidden : Str → Bool
 
--- Which steps are independent, and what is left of one after the other.
+-- Independence of steps: what one becomes behind another.
 pub record Independence : Type 0 where
-  -- what is left of the first after the second; none where they are dependent
+  -- what the first becomes behind the second; none where they are dependent
   pub left : Str → Str → Option Str
   -- the step independent of the first of which the second is left after it
   pub back : Str → Str → Option Str

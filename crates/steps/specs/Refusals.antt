@@ -1,4 +1,4 @@
--- The number, the layer and the place by which each refusal of a step system is told. Assumes nothing.
+-- The number, the layer and the place that tell each refusal of a step system.
 use Rattle.std.specs.Prelude.{◌/◌, ◌%◌, [], ◌∷◌}
 use Rattle.steps.specs.Meaning.{Str}
 use Rattle.steps.specs.declared.fault.Refusal.{Refusal}

@@ -1,10 +1,11 @@
-// Why a step system sends something back, and the number, layer and place that each case is told by.
+// Why a step system sends something back; the number, layer and place that tell each case.
 ghost use Rattle.std.specs.Prelude.{◌≡◌};
 ghost use Rattle.steps.specs.declared.fault.MaskFault.TheVariants.{Inner};
 ghost use Rattle.steps.specs.Refusals.{system_refusal, mask_refusal, refusal_bytes};
 
 // How a refusal is told: its number, the layer that refuses, and a place or a length.
-// Numbers and no enums: up to here a refusal is one of the enums below, and these are the bytes that the format has for it.
+// Numbers and no enums: up to here a refusal is one of the enums below, and these are the bytes
+// that the format has for it.
 #[derive(Clone, Copy)]
 pub struct Refusal {
     pub number: u8,
@@ -17,7 +18,8 @@ pub struct Refusal {
 pub enum SystemFault {
     // No state, or longer than a state may be: the first byte that fits none.
     NoState(u16),
-    // No step, or longer than a step may be: the first byte that fits none, or the first improper part.
+    // No step, or longer than a step may be: the place of the byte that fits no step, else of the
+    // first improper part.
     NoStep(u16),
     // The step is not possible in the state: the first part that does not fit.
     Impossible(u16),

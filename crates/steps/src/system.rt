@@ -8,7 +8,8 @@ ghost use Rattle.steps.specs.Answers.{state_answer, step_answer, label_answer, n
 use crate::fault::MaskFault;
 use crate::label::Label;
 
-// A question changes nothing. It answers the meaning, or the first refusal in the order: no step, masked, no state, not possible, too long.
+// A question changes nothing. Its answer is the meaning, or the first refusal in the order:
+// no step, masked, no state, not possible, too long.
 // An answer of bytes is written to a lent buffer, and its length given back: no heap is used.
 pub trait StepSystem {
     ghost transitions: { Self → Transitions };
@@ -29,22 +30,35 @@ pub trait StepSystem {
 
     // Which state follows by the step? Its length, with the state at the front of `out`.
     fn next(&self, state: &[u8], step: &[u8], out: &mut [u8]) -> Result<usize, MaskFault>
-        ensures answer { result ≡ count (next_answer (transitions self.now) state.now step.now (length out.old)) }
-        ensures buffer { out.new ≡ buffer_after (next_answer (transitions self.now) state.now step.now (length out.old)) out.old };
+        ensures answer { result ≡ count
+            (next_answer (transitions self.now) state.now step.now (length out.old)) }
+        ensures buffer { out.new ≡ buffer_after
+            (next_answer (transitions self.now) state.now step.now (length out.old)) out.old };
 
     // Are the two steps independent?
     fn independent(&self, x: &[u8], y: &[u8]) -> Result<bool, MaskFault>
-        ensures { result ≡ independent_answer (transitions self.now) (independence self.now) x.now y.now };
+        ensures { result ≡ independent_answer
+            (transitions self.now) (independence self.now) x.now y.now };
 
-    // What is left of x after y? Its length, with the step at the front of `out`; none where they are dependent.
+    // What is left of x after y? Its length, with the step at the front of `out`;
+    // none where they are dependent.
     fn residual(&self, x: &[u8], y: &[u8], out: &mut [u8]) -> Result<Option<usize>, MaskFault>
-        ensures answer { result ≡ count_some (left_answer (transitions self.now) (independence self.now) x.now y.now (length out.old)) }
-        ensures buffer { out.new ≡ buffer_after_some (left_answer (transitions self.now) (independence self.now) x.now y.now (length out.old)) out.old };
+        ensures answer { result ≡ count_some
+            (left_answer (transitions self.now) (independence self.now)
+            x.now y.now (length out.old)) }
+        ensures buffer { out.new ≡ buffer_after_some
+            (left_answer (transitions self.now) (independence self.now)
+            x.now y.now (length out.old)) out.old };
 
-    // Which step, independent of x, has z left after x? Its length, with the step at the front of `out`, or that there is none.
+    // Which step, independent of x, has z left after x? Its length, with the step at the front of
+    // `out`, or that there is none.
     fn back(&self, x: &[u8], z: &[u8], out: &mut [u8]) -> Result<Option<usize>, MaskFault>
-        ensures answer { result ≡ count_some (back_answer (transitions self.now) (independence self.now) x.now z.now (length out.old)) }
-        ensures buffer { out.new ≡ buffer_after_some (back_answer (transitions self.now) (independence self.now) x.now z.now (length out.old)) out.old };
+        ensures answer { result ≡ count_some
+            (back_answer (transitions self.now) (independence self.now)
+            x.now z.now (length out.old)) }
+        ensures buffer { out.new ≡ buffer_after_some
+            (back_answer (transitions self.now) (independence self.now)
+            x.now z.now (length out.old)) out.old };
 
     ghost lawful: { (m : Self) → Laws (transitions m) (independence m) };
 }

@@ -1,0 +1,7 @@
+mod DesignRules
+mod TermsRules
+mod NetRules
+mod Judged
+mod LayeredRules
+mod Possible
+mod Worked

@@ -1,5 +1,6 @@
--- Two steps are independent exactly if they are different steps, and a step stays itself after another. Assumes nothing.
-use Rattle.std.specs.Prelude.{ℕ, Bool, not, cond, Some, None, Ok, Err, Option, Result, ◌==◌}
+-- Two steps are independent exactly if they are different steps, and a step stays itself after
+-- another.
+use Rattle.std.specs.Prelude.{ℕ, Bool, not, Some, None, Ok, Err, Option, Result, ◌==◌, if◌then◌else◌}
 use Rattle.steps.specs.Meaning.{Str, Independence}
 use Rattle.toys.specs.Sum.{read_byte}
 
@@ -8,14 +9,14 @@ abbrev pub distinct : ℕ → ℕ → Bool
 distinct a b = not (a == b)
 
 -- the step x, where two bytes were read that differ
-abbrev pub remains : Str → Result ℕ ℕ → Result ℕ ℕ → Option Str
-remains x (Ok a) (Ok b) = cond (a == b) None (Some x)
-remains x (Ok a) (Err p) = None
-remains x (Err p) r = None
+abbrev pub step_if_distinct : Str → Result ℕ ℕ → Result ℕ ℕ → Option Str
+step_if_distinct x (Ok a) (Ok b) = if a == b then None else Some x
+step_if_distinct x (Ok a) (Err p) = None
+step_if_distinct x (Err p) r = None
 
 abbrev pub commuting_independence : Independence
 commuting_independence =
     record {
-      left = λ x y. remains x (read_byte x) (read_byte y);
-      back = λ x z. remains z (read_byte x) (read_byte z);
+      left = λ x y. step_if_distinct x (read_byte x) (read_byte y);
+      back = λ x z. step_if_distinct z (read_byte x) (read_byte z);
     }

@@ -1,4 +1,4 @@
--- No two steps are independent, so nothing is ever left of one after another. Assumes nothing.
+-- No two steps are independent, so nothing is ever left of one after another.
 use Rattle.std.specs.Prelude.{ℕ, Bool, false, None}
 use Rattle.steps.specs.Meaning.{Independence}
 

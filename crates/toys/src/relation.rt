@@ -1,5 +1,5 @@
 // Which steps of one byte are independent.
-ghost use Rattle.std.specs.Prelude.{◌≡◌, ℕ, Bool, true, false};
+ghost use Rattle.std.specs.Prelude.{◌≡◌, ℕ, Bool, IsTrue, IsFalse};
 
 // A relation between steps that holds both ways round, and never between a step and itself.
 pub trait Relation {
@@ -9,7 +9,7 @@ pub trait Relation {
     fn apart(&self, a: u8, b: u8) -> bool
         ensures { result ≡ apart a b };
 
-    ghost symmetric: { (a b : ℕ) → apart a b ≡ true → apart b a ≡ true };
+    ghost symmetric: { (a b : ℕ) → IsTrue (apart a b) → IsTrue (apart b a) };
 
-    ghost irreflexive: { (a : ℕ) → apart a a ≡ false };
+    ghost irreflexive: { (a : ℕ) → IsFalse (apart a a) };
 }

@@ -1,7 +1,7 @@
 // A state is a byte, a step is a byte, and a step leads to their sum, counted round past 255.
 ghost use Rattle.std.specs.Prelude.{◌≡◌, ◌+◌, ◌%◌, [], ◌∷◌, slice_index};
 ghost use Rattle.std.proofs.Common.{rules};
-ghost use Rattle.toys.specs.Sum.{read_byte, state_read, step_read, sum_transitions, sum_independence};
+ghost use Rattle.toys.specs.Sum.{read_byte, state_byte, step_byte, sum_transitions, sum_independence};
 
 use crate::relation::Relation;
 use byte_strings::buffer;
@@ -29,12 +29,19 @@ impl<R: Relation> StepSystem for Sum<R> {
           between_steps = Prim.search rules;
           symmetric = λ x y z h. (y, Prim.search (rules, R.symmetric));
           irreflexive = Prim.search (rules, R.irreflexive);
-          diamond = λ a b c x y x' y' h k i j. ((slice_index a 0 + slice_index x 0 + slice_index y 0) % 256 ∷ [], Prim.search rules, Prim.search rules);
+          diamond = λ a b c x y x' y' h k i j. (
+            (slice_index a 0 + slice_index x 0 + slice_index y 0) % 256 ∷ [],
+            Prim.search rules,
+            Prim.search rules,
+          );
           left_step = Prim.search rules;
           left_label = Prim.search rules;
           left_length = Prim.search rules;
           origin = Prim.search rules;
-          origin_possible = λ a b c x y z h k i. ((slice_index a 0 + slice_index y 0) % 256 ∷ [], Prim.search rules);
+          origin_possible = λ a b c x y z h k i. (
+            (slice_index a 0 + slice_index y 0) % 256 ∷ [],
+            Prim.search rules,
+          );
           cube = λ x y w x' y' w' w'' h i j k. (w, Prim.search rules, Prim.search rules);
           independent_before = λ x y w y' w' v h i j. (y, Prim.search rules);
         } };
@@ -76,7 +83,8 @@ impl<R: Relation> StepSystem for Sum<R> {
     }
 }
 
-// The byte that a string is, or the place, and no kind of error, where it ends too early or goes on too long.
+// The byte that a string is, or the place, and no kind of error, where it ends too early or goes on
+// too long.
 fn read(string: &[u8]) -> Result<u8, u16>
     ensures { result ≡ read_byte string.now }
 {
@@ -89,14 +97,14 @@ fn read(string: &[u8]) -> Result<u8, u16>
 
 // The byte that a state is.
 fn read_state(state: &[u8]) -> Result<u8, MaskFault>
-    ensures { result ≡ state_read (read_byte state.now) }
+    ensures { result ≡ state_byte (read_byte state.now) }
 {
     Ok(read(state).map_err(SystemFault::NoState)?)
 }
 
 // The byte that a step is.
 fn read_step(step: &[u8]) -> Result<u8, MaskFault>
-    ensures { result ≡ step_read (read_byte step.now) }
+    ensures { result ≡ step_byte (read_byte step.now) }
 {
     Ok(read(step).map_err(SystemFault::NoStep)?)
 }

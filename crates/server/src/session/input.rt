@@ -35,7 +35,7 @@ impl Session {
             return Some(0);
         }
         let n = self.server.answer(self.line.items(), out)?;
-        self.line = Held::empty();
+        self.line.clear();
         Some(n)
     }
 

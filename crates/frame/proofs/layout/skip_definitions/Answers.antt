@@ -9,12 +9,14 @@ loop-init c = ap (λ n. behind_answer n c.args.bytes.now) (omega arith)
 pub returns-in_default : goal.returns-in_default
 returns-in_default c =
     let left : c.args.count - c.loop.counter ≡ (c.args.count - (c.loop.counter + 1)) + 1 = omega arith in
-    sym (behind_missing _ (c.args.count - (c.loop.counter + 1)) c.loop.rest.now left (sym (c.in_default.ensures.part))) ∙ c.loop.invariant
+    sym (behind_missing _ (c.args.count - (c.loop.counter + 1)) c.loop.rest.now left (sym (c.in_default.ensures.part)))
+    ∙ c.loop.invariant
 
 pub loop-preserved : goal.loop-preserved
 loop-preserved c =
     let left : c.args.count - c.loop.counter ≡ (c.args.count - (c.loop.counter + 1)) + 1 = omega arith in
-    sym (behind_more _ (c.args.count - (c.loop.counter + 1)) c.loop.rest.now _ c.in-Some.behind.now left (sym (c.in-Some.ensures.part))) ∙ c.loop.invariant
+    sym (behind_more _ (c.args.count - (c.loop.counter + 1)) c.loop.rest.now _ c.in-Some.behind.now left
+    (sym (c.in-Some.ensures.part))) ∙ c.loop.invariant
 
 pub returns : goal.returns
 returns c =

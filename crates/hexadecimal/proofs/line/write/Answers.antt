@@ -9,5 +9,6 @@ returns-then-n-m c =
 
 pub returns : goal.returns
 returns c =
-    let told = line_written c.args.front.now c.args.back.now c.args.out.now c.write.new.out c.write-2.new.out (omega arith) c.write.ensures.buffer c.write-2.ensures.buffer in
+    let told = line_written c.args.front.now c.args.back.now c.args.out.now c.write.new.out c.write-2.new.out
+    (omega arith) c.write.ensures.buffer c.write-2.ensures.buffer in
     record { answer = told.0; buffer = told.1 }

@@ -10,11 +10,15 @@ invariant_of-self c =
     let ps = c.args.self.now.items in
     let space : length ps < 8 = omega (arith, ap length c.items.ensures.value, c.if-items-ge-PAIR_LIMIT.false) in
     let taken = besides ps c.args.pair (faultless (beside_fault ps c.args.pair) c.in_ok-check.ensures) in
-    record { sound = ap sound_pairs (c.push.ensures ∙ pushed 8 ps c.args.pair space) ∙ sound_push ps c.args.pair c.args.self.now.sound taken.0 taken.1 taken.2 }
+    record {
+      sound = ap sound_pairs (c.push.ensures ∙ pushed 8 ps c.args.pair space)
+          ∙ sound_push ps c.args.pair c.args.self.now.sound taken.0 taken.1 taken.2;
+    }
 
 pub returns-clause-pairs : goal.returns-clause-pairs
 returns-clause-pairs c =
     let ps = c.args.self.now.items in
     let space : length ps < 8 = omega (arith, ap length c.items.ensures.value, c.if-items-ge-PAIR_LIMIT.false) in
     let none = room ps c.args.pair space ∙ faultless (beside_fault ps c.args.pair) c.in_ok-check.ensures in
-    c.push.ensures ∙ pushed 8 ps c.args.pair space ∙ sym (ap (λ (o : Option PairFault). pairs_after o ps c.args.pair) none)
+    c.push.ensures ∙ pushed 8 ps c.args.pair space
+    ∙ sym (ap (λ (o : Option PairFault). pairs_after o ps c.args.pair) none)

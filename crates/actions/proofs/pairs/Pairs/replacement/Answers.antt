@@ -4,7 +4,8 @@ use Rattle.actions.proofs.pairs.Pairs.replacement.Goals as goal
 
 pub overflow_add-result : goal.overflow_add-result
 overflow_add-result c =
-    let low = co_name_fits c.args.self.now.items c.name_of.result c.in-Some.to c.args.self.now.sound (sym c.to.ensures ∙ c.in-Some.is) in
+    let low = co_name_fits c.args.self.now.items c.name_of.result c.in-Some.to c.args.self.now.sound
+    (sym c.to.ensures ∙ c.in-Some.is) in
     omega (arith, low)
 
 pub returns-in_default-clause-names : goal.returns-in_default-clause-names

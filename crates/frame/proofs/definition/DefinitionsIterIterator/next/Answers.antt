@@ -9,13 +9,15 @@ returns-in_err-count-clause-steps c =
     let s = c.args.self.now in
     let zero : s.count ≡ 0 = omega (arith, c.in_err-count.ensures) in
     let none = ap (λ n. bodies n s.rest.now) zero ∙ bodies_end s.rest.now in
-    subst (λ r. NextDefinition (bodies s.count s.rest.now) s.place r (bodies s.count s.rest.now) s.place) (sym c.from_residual.ensures) (none, none)
+    subst (λ r. NextDefinition (bodies s.count s.rest.now) s.place r (bodies s.count s.rest.now) s.place)
+    (sym c.from_residual.ensures) (none, none)
 
 pub returns-in_err-body-clause-steps : goal.returns-in_err-body-clause-steps
 returns-in_err-body-clause-steps c =
     let s = c.args.self.now in
     let none = bodies_missing s.count s.rest.now (sym c.in_err-body.ensures.part) in
-    subst (λ r. NextDefinition (bodies s.count s.rest.now) s.place r (bodies s.count s.rest.now) s.place) (sym c.from_residual-in_err-body.ensures) (none, none)
+    subst (λ r. NextDefinition (bodies s.count s.rest.now) s.place r (bodies s.count s.rest.now) s.place)
+    (sym c.from_residual-in_err-body.ensures) (none, none)
 
 pub returns-clause-steps : goal.returns-clause-steps
 returns-clause-steps c =

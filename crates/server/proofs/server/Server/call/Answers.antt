@@ -7,7 +7,7 @@ use Rattle.server.specs.Answer.{model_of, system_of, reworking_of, frame_reply}
 use Rattle.bench.proofs.Silent.{swap_is_silent}
 use Rattle.server.proofs.Replies.{sent_back, step_sent_back, print_sent_back, answer_told, written}
 use Rattle.server.proofs.server.Server.call.Goals as goal
-use Rattle.server.proofs.server.Server.call.Goals.{in_default-Setup+in_ok-self-in_default-Setup, in-Some-Blank-Open+in_ok-open_sheet-in-Some-Blank-Open, in-Some-Open-Add+in_ok-n-in-Some-Open-Add, in-Some-Open-Withdraw+in_ok-n-in-Some-Open-Withdraw, in-Some-Open-Look+in_ok-n-in-Some-Open-Look, in-Some-Open-Swap+in_ok-swap-in-Some-Open-Swap, in-Some-Open-Join+in_ok-len-in-Some-Open-Join, in-Some-Open-Release+in_ok-release-in-Some-Open-Release, in-Some-Released-Reopen+in_ok-reopen-in-Some-Released-Reopen}
+use Rattle.server.proofs.server.Server.call.Goals.{in_default-Setup+in_ok-set_up-in_default-Setup, in-Some-Blank-Open+in_ok-open_sheet-in-Some-Blank-Open, in-Some-Open-Add+in_ok-n-in-Some-Open-Add, in-Some-Open-Withdraw+in_ok-n-in-Some-Open-Withdraw, in-Some-Open-Look+in_ok-n-in-Some-Open-Look, in-Some-Open-Swap+in_ok-swap-in-Some-Open-Swap, in-Some-Open-Join+in_ok-len-in-Some-Open-Join, in-Some-Open-Release+in_ok-release-in-Some-Open-Release, in-Some-Released-Reopen+in_ok-reopen-in-Some-Released-Reopen}
 
 pub returns-in_err-open_sheet-in-Some-Blank-Open : goal.returns-in_err-open_sheet-in-Some-Blank-Open
 returns-in_err-open_sheet-in-Some-Blank-Open c =
@@ -44,7 +44,7 @@ returns-clause-answer c =
     let m = model_of c.args.self.now in
     let text : (frame_reply (model_of c.args.self.now) (frame_view c.args.frame.now)).text ≡ line (0 ∷ take (c.match-frame.n - 0) c.match-frame.end) =
     elim c.match-frame.branch [
-      | in_default-Setup+in_ok-self-in_default-Setup w ↦ let h = w.in_ok-self-in_default-Setup.ensures in rw (w.in_default-Setup.is-1, w.n-is) (search rules)
+      | in_default-Setup+in_ok-set_up-in_default-Setup w ↦ rw (w.in_default-Setup.is-1, w.n-is) (sym (ap (λ r. r.text) w.in_ok-set_up-in_default-Setup.ensures))
       | in-Some-Blank-Open+in_ok-open_sheet-in-Some-Blank-Open w ↦ rw (w.in-Some-Blank-Open.is-1, w.n-is) (search rules)
       | in-Some-Open-Add+in_ok-n-in-Some-Open-Add w ↦ rw (w.in-Some-Open-Add.is-1, w.n-is, w.end-is) (answer_told _ _ _ _ w.in_ok-n-in-Some-Open-Add.ensures.answer w.in_ok-n-in-Some-Open-Add.ensures.buffer)
       | in-Some-Open-Swap+in_ok-swap-in-Some-Open-Swap w ↦ rw (w.in-Some-Open-Swap.is-1, w.n-is) (ap call_text (swap_is_silent (system_of m) (reworking_of m) m.pages w.in-Some-Open-Swap.sheet w.in-Some-Open-Swap.place w.in_ok-swap-in-Some-Open-Swap.ensures.answer))

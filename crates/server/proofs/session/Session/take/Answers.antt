@@ -39,6 +39,6 @@ returns c =
       answer = λ l e. said.answer ∙ ends_length m out l b c.if-byte-ne10.false _ (c.items.ensures.value ∙ e);
       buffer = λ l e. said.buffer ∙ ends_buffer m out l b c.if-byte-ne10.false _ (c.items.ensures.value ∙ e);
       model = λ l e. said.model ∙ ends_model m out l b c.if-byte-ne10.false _ (c.items.ensures.value ∙ e);
-      line = λ l e. c.empty-self.ensures ∙ ends_line m out l b c.if-byte-ne10.false _ (c.items.ensures.value ∙ e) c.in_ok-n.n said.answer;
+      line = λ l e. c.clear.ensures ∙ ends_line m out l b c.if-byte-ne10.false _ (c.items.ensures.value ∙ e) c.in_ok-n.n said.answer;
       bound = said.bound;
     }

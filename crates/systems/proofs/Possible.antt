@@ -1,0 +1,33 @@
+-- The program's system answers as the rules say: a design that exists is sound, so it follows them, and so do the
+-- layers.
+use Rattle.std.proofs.Common.{◌≡◌, ℕ, List}
+use Rattle.actions.specs.declared.names.Names.{Names}
+use Rattle.actions.specs.declared.pairs.Pairs.{Pairs}
+use Rattle.actions.specs.Contents.{names_of, pairs_of}
+use Rattle.layers.specs.Mask.{mask_transitions, mask_independence}
+use Rattle.layers.specs.Renaming.{renaming_transitions}
+use Rattle.nets.specs.Contents.{events_of}
+use Rattle.terms.specs.Contents.{terms_of}
+use Rattle.terms.specs.Sound.{terms_sound}
+use Rattle.systems.specs.declared.terms_or_net.TermsOrNet.{TermsOrNet}
+use Rattle.systems.specs.declared.terms_or_net.TermsOrNet.TheVariants as variant
+use Rattle.systems.specs.Design.{design_of, transitions_of, independence_of}
+use Rattle.systems.specs.Possible.{Possible}
+use Rattle.systems.proofs.DesignRules.{FollowsRules}
+use Rattle.systems.proofs.TermsRules.{terms_follow}
+use Rattle.systems.proofs.NetRules.{net_follows}
+use Rattle.systems.proofs.LayeredRules.{layered_by_rules}
+use Rattle.systems.proofs.Judged.{possible}
+
+design_follows : (s : TermsOrNet) → FollowsRules (design_of s)
+design_follows (variant.Terms t) = terms_follow (terms_of t) (terms_sound t.count t.bodies t.few t.sound)
+design_follows (variant.Net n) = net_follows (events_of n) n.sound
+
+pub possible_by_rules : (s : TermsOrNet) (pairs : Pairs) (names : Names) →
+    Possible (design_of s) (pairs_of pairs) (names_of names)
+    (mask_transitions (names_of names) (renaming_transitions (pairs_of pairs) (transitions_of (design_of s))))
+    (mask_independence (names_of names) (renaming_transitions (pairs_of pairs) (transitions_of (design_of s)))
+    (independence_of (design_of s)))
+possible_by_rules s pairs names =
+    possible (design_of s) (pairs_of pairs) (names_of names) _ _
+    (layered_by_rules (design_of s) (pairs_of pairs) (names_of names) pairs.sound names.sound (design_follows s))
