@@ -290,9 +290,9 @@ module _ (d : Design) (ps : List Pair) (ns : List ℕ) (t : Transitions) (i : In
 
       from : (g : MaskFault) → Refused d ps ns a x n g → next_answer t a x n ≡ Err g
       from g (Refused.step s) = next_refused_step a x n g s
-      from g (Refused.state al no_state) =
+      from g (Refused.state al none) =
           step_allowed x (first (state_refusal t a) (move_answer (t.next a x) n)) al
-          ∙ at_once _ _ _ (state_refused a g bytes no_state)
+          ∙ at_once _ _ _ (state_refused a g bytes none)
       from _ (Refused.not_possible {p} al w nowhere k) =
           next_stuck a x n p al ((r.within_state a).1 w) ((r.stuck a x p (shown_of x al) w al.step).1 (nowhere, k))
       from _ (Refused.too_long b al w m long) =

@@ -9,7 +9,7 @@ use Rattle.ccs.specs.Beginning.{IsTerm, IsProof, IsStep}
 use Rattle.ccs.specs.System.{body_of, sound_bodies, terms_transitions, terms_independence}
 use Rattle.ccs.specs.FollowLaws.{Goes}
 use Rattle.ccs.specs.ResidualLaws.{Leaves}
-use Rattle.ccs.proofs.Places.{state_places, step_places}
+use Rattle.ccs.proofs.Places.{state_place, step_place}
 use Rattle.ccs.proofs.System.{terms_laws, states_are_terms, steps_are_proper, next_by_rules, misfit_place, labels_shown, left_by_rules, back_undoes_left}
 use Rattle.systems.specs.Design.Design.{of_terms}
 use Rattle.systems.specs.Rules.{ProofShows, MisfitIn, Moves, Does, WithinState, WithinStep, NoStateAt, NoStepAt, StuckAt}
@@ -81,11 +81,11 @@ module _ (ds : List Term) (sound : IsTrue (sound_bodies (length ds) ds)) where
   terms_follow =
       record {
         within_step = within_step;
-        step_place = step_places ds;
+        step_place = step_place ds;
         never_hidden = λ x. refl;
         shows = shows;
         within_state = within_state;
-        state_place = λ s p bytes. state_places ds s p;
+        state_place = λ s p bytes. state_place ds s p;
         moves = next_by_rules ds sound;
         stuck = stuck;
         left = left_by_rules;

@@ -93,8 +93,8 @@ module _ (d : Design) (ps : List Pair) (ns : List ℕ) where
     pub second : Allowed y
     pub none : (z : Str) → Is z → ⊥
 
-  -- Why neither is answered: one of the two is refused; else the answer is too long for the limit or
-  -- the buffer, told by the length that it needs.
+  -- Why neither is answered: one of the two is refused; else the answer is too long for the limit
+  -- or the buffer, told by the length that it needs.
   pub data AnswerRefused (x y : Str) (Is : Str → Type 0) (n : ℕ) : MaskFault → Type 0 where
     steps : {f : MaskFault} → BothRefused x y f → AnswerRefused x y Is n f
     too_long : (z : Str) → Allowed x → Allowed y → Is z → min n step_limit < length z →

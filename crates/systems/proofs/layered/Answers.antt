@@ -1,8 +1,10 @@
-use Rattle.systems.proofs.Possible.{possible_by_rules}
+use Rattle.systems.proofs.Possible.{possible_with, every_system}
 use Rattle.systems.proofs.layered.Goals as goal
 
 pub returns-clause-possible : goal.returns-clause-possible
-returns-clause-possible c = possible_by_rules c.args.system c.args.pairs c.args.names
+returns-clause-possible c =
+    possible_with c.over-2.result c.over.result c.args.system c.args.pairs c.args.names
+    c.over-2.ensures.system c.over-2.ensures.names c.over.ensures.system c.over.ensures.pairs
 
 pub returns-clause-every : goal.returns-clause-every
-returns-clause-every c = λ m. possible_by_rules m.system.system m.system.pairs m.names
+returns-clause-every c = every_system
