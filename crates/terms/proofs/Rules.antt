@@ -20,7 +20,7 @@ use Rattle.ccs.specs.ReadingLaws.{StepFault}
 use Rattle.ccs.specs.ResidualLaws.{Leaves}
 use Rattle.ccs.specs.System.{sound_bodies, label_of, terms_transitions, terms_independence}
 use Rattle.ccs.proofs.System.{terms_laws, next_by_rules, misfits_told, labels_shown, left_by_rules, back_undoes_left, states_are_terms, steps_are_proper}
-use Rattle.ccs.proofs.Places.{state_places, step_places}
+use Rattle.ccs.proofs.Places.{state_place, step_place}
 use Rattle.terms.specs.declared.terms.Terms.{Terms}
 use Rattle.terms.specs.Contents.{terms_of}
 use Rattle.terms.specs.Sound.{terms_sound}
@@ -46,10 +46,10 @@ pub terms_leave_by_rules : (t : Terms) → LeavesByRules t
 terms_leave_by_rules t = left_by_rules
 
 pub terms_state_places : (t : Terms) → StatePlacesByRules t
-terms_state_places t = state_places (terms_of t)
+terms_state_places t = state_place (terms_of t)
 
 pub terms_step_places : (t : Terms) → StepPlacesByRules t
-terms_step_places t = step_places (terms_of t)
+terms_step_places t = step_place (terms_of t)
 
 laws_of : (t : Terms) → Laws (terms_transitions (terms_of t)) terms_independence
 laws_of t = terms_laws (terms_of t) (bodies_sound t)
@@ -85,14 +85,14 @@ state_rules t s = go ((terms_transitions (terms_of t)).bad_state s) refl
   where
     go : (o : Option ℕ) → (terms_transitions (terms_of t)).bad_state s ≡ o → StateRules (terms_of t) s (first (if_state o) (Ok tt))
     go None e = is_state (unrefused_state t s e)
-    go (Some p) e = no_state (refused_state t s p e) (terms_state_places t s p e)
+    go (Some p) e = no_state (refused_state t s p e) ((terms_state_places t s p).0 e).place
 
 pub step_rules : (t : Terms) (x : Str) → StepRules x (step_answer (terms_transitions (terms_of t)) x)
 step_rules t x = go ((terms_transitions (terms_of t)).bad_step x) refl
   where
     go : (o : Option ℕ) → (terms_transitions (terms_of t)).bad_step x ≡ o → StepRules x (first (if_step o) (Ok tt))
     go None e = is_step (unrefused_step t x e)
-    go (Some p) e = no_step (refused_step t x p e) (terms_step_places t x p e)
+    go (Some p) e = no_step (refused_step t x p e) ((terms_step_places t x p).0 e)
 
 -- what a proof shows is what its step shows
 shown_by_step : (t : Terms) (x : Str) → Step x → LabelRules x (Ok ((terms_transitions (terms_of t)).label x))
@@ -105,7 +105,7 @@ label_rules t x = go ((terms_transitions (terms_of t)).bad_step x) refl
   where
     go : (o : Option ℕ) → (terms_transitions (terms_of t)).bad_step x ≡ o → LabelRules x (first (if_step o) (Ok ((terms_transitions (terms_of t)).label x)))
     go None e = shown_by_step t x (unrefused_step t x e)
-    go (Some p) e = shows_nothing (refused_step t x p e) (terms_step_places t x p e)
+    go (Some p) e = shows_nothing (refused_step t x p e) ((terms_step_places t x p).0 e)
 
 pub next_rules : (t : Terms) (a x : Str) (n : ℕ) → NextRules (terms_of t) a x n (next_answer (terms_transitions (terms_of t)) a x n)
 next_rules t a x n = by_step ((terms_transitions (terms_of t)).bad_step x) refl
@@ -124,12 +124,12 @@ next_rules t a x n = by_step ((terms_transitions (terms_of t)).bad_step x) refl
     by_state : Step x → (o : Option ℕ) → (terms_transitions (terms_of t)).bad_state a ≡ o
         → NextRules (terms_of t) a x n (first (if_state o) (move_answer ((terms_transitions (terms_of t)).next a x) n))
     by_state h None e = by_move h (unrefused_state t a e) ((terms_transitions (terms_of t)).next a x) refl
-    by_state h (Some p) e = from_no_state h (refused_state t a p e) (terms_state_places t a p e)
+    by_state h (Some p) e = from_no_state h (refused_state t a p e) ((terms_state_places t a p).0 e).place
 
     by_step : (o : Option ℕ) → (terms_transitions (terms_of t)).bad_step x ≡ o
         → NextRules (terms_of t) a x n (first (if_step o) (first (state_refusal (terms_transitions (terms_of t)) a) (move_answer ((terms_transitions (terms_of t)).next a x) n)))
     by_step None e = by_state (unrefused_step t x e) ((terms_transitions (terms_of t)).bad_state a) refl
-    by_step (Some p) e = by_no_step (refused_step t x p e) (terms_step_places t x p e)
+    by_step (Some p) e = by_no_step (refused_step t x p e) ((terms_step_places t x p).0 e)
 
 -- a step that is sought, where one is found exactly where it is one
 sought : (t : Terms) (x y : Str) (n : ℕ) (Sought : Str → Type 0) (o : Option Str) → ((z : Str) → o ≡ Some z → Sought z) → ((z : Str) → Sought z → o ≡ Some z)
@@ -147,12 +147,12 @@ sought t x y n Sought o found finds = by_first ((terms_transitions (terms_of t))
 
     by_second : Step x → (q : Option ℕ) → (terms_transitions (terms_of t)).bad_step y ≡ q → StepSought x y Sought n (first (if_step q) (fitting_step o n))
     by_second h None e = by_answer h (unrefused_step t y e) o refl
-    by_second h (Some p) e = second_no_step h (refused_step t y p e) (terms_step_places t y p e)
+    by_second h (Some p) e = second_no_step h (refused_step t y p e) ((terms_step_places t y p).0 e)
 
     by_first : (q : Option ℕ) → (terms_transitions (terms_of t)).bad_step x ≡ q
         → StepSought x y Sought n (first (if_step q) (first (step_refusal (terms_transitions (terms_of t)) y) (fitting_step o n)))
     by_first None e = by_second (unrefused_step t x e) ((terms_transitions (terms_of t)).bad_step y) refl
-    by_first (Some p) e = first_no_step (refused_step t x p e) (terms_step_places t x p e)
+    by_first (Some p) e = first_no_step (refused_step t x p e) ((terms_step_places t x p).0 e)
 
 pub residual_rules : (t : Terms) (x y : Str) (n : ℕ) → StepSought x y (Leaves x y) n (left_answer (terms_transitions (terms_of t)) terms_independence x y n)
 residual_rules t x y n = sought t x y n (Leaves x y) (terms_independence.left x y) (λ z. (left_by_rules x y z).0) (λ z. (left_by_rules x y z).1)
@@ -170,12 +170,12 @@ independent_rules t x y = by_first ((terms_transitions (terms_of t)).bad_step x)
 
     by_second : Step x → (q : Option ℕ) → (terms_transitions (terms_of t)).bad_step y ≡ q → IndependentRules x y (first (if_step q) (Ok (is_some (terms_independence.left x y))))
     by_second h None e = by_answer h (unrefused_step t y e) (terms_independence.left x y) refl
-    by_second h (Some p) e = second_none h (refused_step t y p e) (terms_step_places t y p e)
+    by_second h (Some p) e = second_none h (refused_step t y p e) ((terms_step_places t y p).0 e)
 
     by_first : (q : Option ℕ) → (terms_transitions (terms_of t)).bad_step x ≡ q
         → IndependentRules x y (first (if_step q) (first (step_refusal (terms_transitions (terms_of t)) y) (Ok (is_some (terms_independence.left x y)))))
     by_first None e = by_second (unrefused_step t x e) ((terms_transitions (terms_of t)).bad_step y) refl
-    by_first (Some p) e = first_none (refused_step t x p e) (terms_step_places t x p e)
+    by_first (Some p) e = first_none (refused_step t x p e) ((terms_step_places t x p).0 e)
 
 -- a check that refuses, and what is answered then
 refusal_is : {A : Type 0} (r : Result A MaskFault) (f : SystemFault) → IsErr r × IsErrAnd r (λ g. g ≡ Inner f) → Err (Inner f) ≡ r
@@ -201,14 +201,14 @@ module _ (t : Terms) where
       → (r : Result A MaskFault) (f : SystemFault) → Err f ≡ step_checked x → IsErr r × IsErrAnd r (λ g. g ≡ Inner f) → Rules r
   at_step_fault Rules x rule r f e h =
       let fault = fault_is NoStep f ((terms_transitions (terms_of t)).bad_step x) e in
-      subst Rules (ap (λ f. Err (Inner f)) fault.2 ∙ refusal_is r f h) (rule fault.0 (refused_step t x fault.0 fault.1) (terms_step_places t x fault.0 fault.1))
+      subst Rules (ap (λ f. Err (Inner f)) fault.2 ∙ refusal_is r f h) (rule fault.0 (refused_step t x fault.0 fault.1) ((terms_step_places t x fault.0).0 fault.1))
 
   pub at_state_fault : {A : Type 0} (Rules : Result A MaskFault → Type 0) (s : Str)
       → ((p : ℕ) → (State (terms_of t) s → ⊥) → LongestBeginning (IsTerm (length (terms_of t))) (take state_limit s) p → Rules (Err (Inner (NoState p))))
       → (r : Result A MaskFault) (f : SystemFault) → Err f ≡ state_checked (terms_of t) s → IsErr r × IsErrAnd r (λ g. g ≡ Inner f) → Rules r
   at_state_fault Rules s rule r f e h =
       let fault = fault_is NoState f ((terms_transitions (terms_of t)).bad_state s) e in
-      subst Rules (ap (λ f. Err (Inner f)) fault.2 ∙ refusal_is r f h) (rule fault.0 (refused_state t s fault.0 fault.1) (terms_state_places t s fault.0 fault.1))
+      subst Rules (ap (λ f. Err (Inner f)) fault.2 ∙ refusal_is r f h) (rule fault.0 (refused_state t s fault.0 fault.1) ((terms_state_places t s fault.0).0 fault.1).place)
 
   pub label_of_step : (x : Str) (l : Label) → Ok tt ≡ step_checked x → l ≡ label_of (read_proof x) → LabelRules x (Ok l)
   label_of_step x l e f = subst (λ l. LabelRules x (Ok l)) (sym f) (shown_by_step t x (checked_is_step x e))

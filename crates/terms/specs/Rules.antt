@@ -15,7 +15,7 @@ use Rattle.ccs.specs.Beginning.{IsTerm, IsStep, LongestBeginning}
 use Rattle.ccs.specs.First.{First}
 use Rattle.ccs.specs.Follow.{MisfitAt}
 use Rattle.ccs.specs.FollowLaws.{Goes}
-use Rattle.ccs.specs.ReadingLaws.{StepFault}
+use Rattle.ccs.specs.ReadingLaws.{StateFault, StepFault}
 use Rattle.ccs.specs.ResidualLaws.{Leaves}
 use Rattle.ccs.specs.System.{body_of, terms_transitions, terms_independence}
 use Rattle.terms.specs.declared.terms.Terms.{Terms}
@@ -34,12 +34,13 @@ MisfitsByRules t = (p : Term) (x : Proof) (k : ℕ) → IsTrue (sound_term (leng
 abbrev pub LeavesByRules : Terms → Type 0
 LeavesByRules t = (x y z : Str) → (terms_independence.left x y ≡ Some z) ↔ Leaves x y z
 
--- of a string that is refused as a state, or as a step, the place is told that the rules give
+-- a string is refused as a state, or as a step, at exactly the place that the rules give
 abbrev pub StatePlacesByRules : Terms → Type 0
-StatePlacesByRules t = (s : Str) (p : ℕ) → (terms_transitions (terms_of t)).bad_state s ≡ Some p → LongestBeginning (IsTerm (length (terms_of t))) (take state_limit s) p
+StatePlacesByRules t =
+    (s : Str) (p : ℕ) → ((terms_transitions (terms_of t)).bad_state s ≡ Some p) ↔ StateFault (length (terms_of t)) s p
 
 abbrev pub StepPlacesByRules : Terms → Type 0
-StepPlacesByRules t = (x : Str) (p : ℕ) → (terms_transitions (terms_of t)).bad_step x ≡ Some p → StepFault x p
+StepPlacesByRules t = (x : Str) (p : ℕ) → ((terms_transitions (terms_of t)).bad_step x ≡ Some p) ↔ StepFault x p
 
 -- the states and the steps that may be asked about
 abbrev pub State : List Term → Str → Type 0
