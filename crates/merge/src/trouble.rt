@@ -8,7 +8,7 @@ use nets::event::EventFault;
 use std::io;
 use std::io::Write;
 use steps::fault::Refusal;
-use terms::terms::contents::BodyFault;
+use terms::body::BodyFault;
 
 #[derive(Drop)]
 pub(crate) enum Trouble {

@@ -1,11 +1,11 @@
--- What is wanted behind a byte, and behind a node whose parts are counted. Assumes nothing.
+-- What is wanted behind a byte, and behind a node whose parts are counted.
 use Rattle.std.proofs.Common.{◌≡◌, ℕ, zero, suc, ◌+◌, ◌-◌, ◌<◌, ◌≤◌, Bool, true, false, cond, [], ◌∷◌, length, drop, get_or, is_ok, nat_lt, Some, None, Ok, Err, Option, Result, sym, refl, ap, ap₂, ◌∙◌, arith}
 use Rattle.std.proofs.lemmas.Bool.{ne_eqb, ltb-true, ltb-false}
 use Rattle.std.proofs.lemmas.List.{drop_more, drop_all}
 use Rattle.steps.specs.Meaning.{Str}
 use Rattle.ccs.specs.declared.due.Due.TheVariants.{Node}
 use Rattle.nodes.specs.declared.scan.Wanted.{Wanted}
-use Rattle.nodes.specs.Whole.{done, one_on, whole, start, shifted, ahead, IsSize}
+use Rattle.nodes.specs.Whole.{behind_byte, done, one_on, whole, start, shifted, ahead, IsSize}
 
 pub more_due : (k : ℕ) → done (record { due = Node; count = suc k }) ≡ false
 more_due k = ne_eqb (suc k) 0 (λ e. absurd (omega (arith, e)))
@@ -35,17 +35,20 @@ module _ (fits : Wanted → ℕ → Option Wanted) where
       go (Err p) = ap Err (omega arith)
 
   abbrev over_byte : Option Wanted → Str → Result ℕ ℕ
-  over_byte o s = elim o [ None ↦ Err 0 | Some v ↦ cond (done v) (Ok 1) (one_on (whole fits v s)) ]
+  over_byte o s = behind_byte o (λ v. whole fits v s)
 
   -- a byte behind which more is due, and the last byte of one
-  pub on_byte : (w v : Wanted) (b : ℕ) (s : Str) → fits w b ≡ Some v → done v ≡ false → whole fits w (b ∷ s) ≡ one_on (whole fits v s)
+  pub on_byte : (w v : Wanted) (b : ℕ) (s : Str) → fits w b ≡ Some v → done v ≡ false
+      → whole fits w (b ∷ s) ≡ one_on (whole fits v s)
   unfolding whole
   on_byte w v b s e d = ap (λ o. over_byte o s) e ∙ ap (λ c. cond c (Ok 1) (one_on (whole fits v s))) d
 
-  pub last_byte : (w : Wanted) (k b : ℕ) (s : Str) → fits w b ≡ Some (record { due = Node; count = k }) → whole fits w (b ∷ s) ≡ ahead fits 1 k s
+  pub last_byte : (w : Wanted) (k b : ℕ) (s : Str) → fits w b ≡ Some (record { due = Node; count = k })
+      → whole fits w (b ∷ s) ≡ ahead fits 1 k s
   unfolding whole ahead shifted
   last_byte w zero b s e = ap (λ o. over_byte o s) e
-  last_byte w (suc k) b s e = on_byte w (record { due = Node; count = suc k }) b s e (more_due k) ∙ (go (whole fits (record { due = Node; count = suc k }) s))
+  last_byte w (suc k) b s e = on_byte w (record { due = Node; count = suc k }) b s e (more_due k)
+      ∙ (go (whole fits (record { due = Node; count = suc k }) s))
     where
       go : (r : Result ℕ ℕ) → one_on r ≡ shifted 1 r
       go (Ok n) = refl
@@ -61,7 +64,8 @@ module _ (fits : Wanted → ℕ → Option Wanted) where
   no_end w n e = cc e
 
   -- what goes on behind a byte
-  pub goes_on : (w v : Wanted) (b n : ℕ) (s : Str) → fits w b ≡ Some v → done v ≡ false → whole fits w (b ∷ s) ≡ Ok n → (m : ℕ) × (whole fits v s ≡ Ok m)
+  pub goes_on : (w v : Wanted) (b n : ℕ) (s : Str) → fits w b ≡ Some v → done v ≡ false → whole fits w (b ∷ s) ≡ Ok n
+      → (m : ℕ) × (whole fits v s ≡ Ok m)
   goes_on w v b n s e d f = go (whole fits v s) refl
     where
       go : (r : Result ℕ ℕ) → whole fits v s ≡ r → (m : ℕ) × (whole fits v s ≡ Ok m)
@@ -74,15 +78,18 @@ module _ (fits : Wanted → ℕ → Option Wanted) where
   ends_within w [] n e = absurd (cc e)
   ends_within w (b ∷ s) n e = on (λ v m g. ends_within v s m g) (fits w b) e
     where
-      last : ((v : Wanted) (m : ℕ) → whole fits v s ≡ Ok m → m ≤ length s) → (v : Wanted) (r : Result ℕ ℕ) → whole fits v s ≡ r → one_on r ≡ Ok n → n ≤ suc (length s)
+      last : ((v : Wanted) (m : ℕ) → whole fits v s ≡ Ok m → m ≤ length s) → (v : Wanted) (r : Result ℕ ℕ)
+          → whole fits v s ≡ r → one_on r ≡ Ok n → n ≤ suc (length s)
       last h v (Ok m) g f = let same : 1 + m ≡ n = cc f in omega (arith, same, h v m g)
       last h v (Err p) g f = absurd (cc f)
 
-      by_done : ((v : Wanted) (m : ℕ) → whole fits v s ≡ Ok m → m ≤ length s) → (v : Wanted) (c : Bool) → cond c (Ok 1) (one_on (whole fits v s)) ≡ Ok n → n ≤ suc (length s)
+      by_done : ((v : Wanted) (m : ℕ) → whole fits v s ≡ Ok m → m ≤ length s) → (v : Wanted) (c : Bool)
+          → cond c (Ok 1) (one_on (whole fits v s)) ≡ Ok n → n ≤ suc (length s)
       by_done h v true f = let same : 1 ≡ n = cc f in omega (arith, same)
       by_done h v false f = last h v (whole fits v s) refl f
 
-      on : ((v : Wanted) (m : ℕ) → whole fits v s ≡ Ok m → m ≤ length s) → (o : Option Wanted) → over_byte o s ≡ Ok n → n ≤ suc (length s)
+      on : ((v : Wanted) (m : ℕ) → whole fits v s ≡ Ok m → m ≤ length s) → (o : Option Wanted) → over_byte o s ≡ Ok n
+          → n ≤ suc (length s)
       on h None f = absurd (cc f)
       on h (Some v) f = by_done h v (done v) f
 
@@ -95,7 +102,8 @@ module _ (fits : Wanted → ℕ → Option Wanted) where
       go (Err p) = ap Err (omega arith)
 
   -- as far as a loop over nodes has come
-  module _ (s : Str) (at due : ℕ) (inv : ahead fits at due (drop at s) ≡ whole fits start s) (ok : is_ok (whole fits start s) ≡ true) where
+  module _ (s : Str) (at due : ℕ) (inv : ahead fits at due (drop at s) ≡ whole fits start s)
+      (ok : is_ok (whole fits start s) ≡ true) where
     sum_is_ok : (i : ℕ) (r : Result ℕ ℕ) → is_ok (shifted i r) ≡ true → (m : ℕ) × (r ≡ Ok m)
     unfolding shifted
     sum_is_ok i (Ok m) e = (m, refl)
@@ -104,7 +112,8 @@ module _ (fits : Wanted → ℕ → Option Wanted) where
     -- more is due, so the string goes on
     going : (d : ℕ) → due ≡ suc d → (m : ℕ) × (whole fits (record { due = Node; count = suc d }) (drop at s) ≡ Ok m)
     unfolding ahead
-    going d e = sum_is_ok at (whole fits (record { due = Node; count = suc d }) (drop at s)) (ap is_ok (sym (ap (λ k. ahead fits at k (drop at s)) e) ∙ inv) ∙ ok)
+    going d e = sum_is_ok at (whole fits (record { due = Node; count = suc d }) (drop at s))
+        (ap is_ok (sym (ap (λ k. ahead fits at k (drop at s)) e) ∙ inv) ∙ ok)
 
     pub in_string : 0 < due → at < length s
     in_string more = by_due due refl
@@ -113,13 +122,16 @@ module _ (fits : Wanted → ℕ → Option Wanted) where
         by_place d e true f = ltb-true at (length s) f
         by_place d e false f =
             let m = going d e in
-            absurd (no_end (record { due = Node; count = suc d }) m.0 (ap (whole fits (record { due = Node; count = suc d })) (sym (drop_all at s (ltb-false at (length s) f))) ∙ m.1))
+            absurd (no_end (record { due = Node; count = suc d }) m.0
+            (ap (whole fits (record { due = Node; count = suc d }))
+            (sym (drop_all at s (ltb-false at (length s) f))) ∙ m.1))
 
         by_due : (d : ℕ) → due ≡ d → at < length s
         by_due zero e = absurd (omega (arith, more, e))
         by_due (suc d) e = by_place d e (nat_lt at (length s)) refl
 
-    pub node_over : (own parts : ℕ) → 0 < due → IsSize fits (get_or s at 0) own parts → ahead fits (at + own) (due - 1 + parts) (drop (at + own) s) ≡ whole fits start s
+    pub node_over : (own parts : ℕ) → 0 < due → IsSize fits (get_or s at 0) own parts
+        → ahead fits (at + own) (due - 1 + parts) (drop (at + own) s) ≡ whole fits start s
     unfolding ahead
     node_over own parts more size = by_due due refl
       where
@@ -128,7 +140,8 @@ module _ (fits : Wanted → ℕ → Option Wanted) where
         by_due (suc d) e =
             let here : drop at s ≡ get_or s at 0 ∷ drop (at + 1) s = drop_more s at 0 (in_string more) in
             let m = going d e in
-            let node = size d (drop (at + 1) s) m.0 (ap (whole fits (record { due = Node; count = suc d })) (sym here) ∙ m.1) in
+            let node = size d (drop (at + 1) s) m.0
+            (ap (whole fits (record { due = Node; count = suc d })) (sym here) ∙ m.1) in
             let less : due - 1 + parts ≡ parts + d = omega (arith, e) in
             ap₂ (ahead fits (at + own)) less (sym (drop_drop own at s))
             ∙ sym (shifted_ahead at own (parts + d) (drop own (drop at s)))

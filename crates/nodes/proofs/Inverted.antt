@@ -1,4 +1,4 @@
--- What a node tells of the string that was read as it, and of its parts. Assumes nothing.
+-- What a node tells of the string that was read as it, and of its parts.
 use Rattle.std.proofs.Common.{◌≡◌, ℕ, Some, None, Ok, Err, Result, refl, subst}
 use Rattle.ccs.specs.Syntax.{Term, Proof}
 use Rattle.ccs.specs.Syntax.Term.{nil, prefix, par, sum, restrict, call}
@@ -15,7 +15,8 @@ abbrev pub ProofParts : NodeOfProof → Result Proof ℕ → Type 0
 ProofParts (Act a) r = r ≡ Ok (act a)
 ProofParts (Left s) r = (t : Proof) × (read_proof s ≡ Ok t) × (r ≡ Ok (on_left t))
 ProofParts (Right s) r = (t : Proof) × (read_proof s ≡ Ok t) × (r ≡ Ok (on_right t))
-ProofParts (Both s p) r = (t : Proof) × (u : Proof) × (read_proof s ≡ Ok t) × (read_proof p ≡ Ok u) × (r ≡ Ok (both t u))
+ProofParts (Both s p) r = (t : Proof) × (u : Proof) × (read_proof s ≡ Ok t) × (read_proof p ≡ Ok u)
+    × (r ≡ Ok (both t u))
 ProofParts (ChooseLeft s) r = (t : Proof) × (read_proof s ≡ Ok t) × (r ≡ Ok (choose_left t))
 ProofParts (ChooseRight s) r = (t : Proof) × (read_proof s ≡ Ok t) × (r ≡ Ok (choose_right t))
 ProofParts (Under m s) r = (t : Proof) × (read_proof s ≡ Ok t) × (r ≡ Ok (under m t))
@@ -52,5 +53,6 @@ pub not_a_term : {n : ℕ} {r : Result Term ℕ} → TermNode n None r → (k : 
 not_a_term no_term = (_, refl)
 
 -- the same of a node that is known
-pub proof_parts_at : {n m : proofs.Proof} {r : Result Proof ℕ} → ProofNode (Some (node_of_proof n)) r → n ≡ m → ProofParts (node_of_proof m) r
+pub proof_parts_at : {n m : proofs.Proof} {r : Result Proof ℕ} → ProofNode (Some (node_of_proof n)) r → n ≡ m
+    → ProofParts (node_of_proof m) r
 proof_parts_at {r = r} h e = proof_parts (subst (λ n. ProofNode (Some (node_of_proof n)) r) e h)

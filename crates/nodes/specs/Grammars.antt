@@ -1,4 +1,4 @@
--- Which bytes fit, of terms and of proofs, without what they make. Assumes nothing.
+-- Which bytes fit, of terms and of proofs, without what they make.
 use Rattle.std.specs.Prelude.{ℕ, Some, None, Option, nat_eq, if◌then◌else◌}
 use Rattle.ccs.specs.declared.node_bytes.TheConstants.{NIL, PREFIX, RESTRICTION, CALL, ACT, BOTH, UNDER}
 use Rattle.ccs.specs.Reading.{Next}

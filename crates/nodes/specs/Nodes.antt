@@ -1,4 +1,4 @@
--- The node that a string is read as, with its parts as strings. Assumes nothing.
+-- The node that a string is read as, with its parts as strings.
 use Rattle.std.specs.Prelude.{◌≡◌, ℕ, ◌+◌, nat_eq, length, is_ok, Some, None, Ok, Err, Option, Result, IsTrue, if◌then◌else◌}
 use Rattle.steps.specs.Meaning.{Str}
 use Rattle.ccs.specs.Syntax.{Term, Proof}
@@ -53,26 +53,37 @@ abbrev pub proof_view : Option proofs.Proof → Option NodeOfProof
 proof_view None = None
 proof_view (Some t) = Some (node_of_proof t)
 
--- A string that is a term over n definitions is read as its first node, whose parts are the strings of the term's parts; any other as none.
+-- A string that is a term over n definitions is read as its first node, whose parts are the strings
+-- of the term's parts; any other as none.
 pub data TermNode (n : ℕ) : Option NodeOfTerm → Result Term ℕ → Type 0 where
   no_term : {k : ℕ} → TermNode n None (Err k)
   nil_node : TermNode n (Some Nil) (Ok nil)
-  prefix_node : {a : ℕ} {s : Str} {p : Term} → read_term n s ≡ Ok p → TermNode n (Some (Prefix a s)) (Ok (prefix a p))
-  par_node : {s r : Str} {p q : Term} → read_term n s ≡ Ok p → read_term n r ≡ Ok q → TermNode n (Some (Par s r)) (Ok (par p q))
-  sum_node : {s r : Str} {p q : Term} → read_term n s ≡ Ok p → read_term n r ≡ Ok q → TermNode n (Some (Sum s r)) (Ok (sum p q))
-  restrict_node : {m : ℕ} {s : Str} {p : Term} → read_term n s ≡ Ok p → TermNode n (Some (Restrict m s)) (Ok (restrict m p))
+  prefix_node : {a : ℕ} {s : Str} {p : Term} → read_term n s ≡ Ok p
+      → TermNode n (Some (Prefix a s)) (Ok (prefix a p))
+  par_node : {s r : Str} {p q : Term} → read_term n s ≡ Ok p → read_term n r ≡ Ok q
+      → TermNode n (Some (Par s r)) (Ok (par p q))
+  sum_node : {s r : Str} {p q : Term} → read_term n s ≡ Ok p → read_term n r ≡ Ok q
+      → TermNode n (Some (Sum s r)) (Ok (sum p q))
+  restrict_node : {m : ℕ} {s : Str} {p : Term} → read_term n s ≡ Ok p
+      → TermNode n (Some (Restrict m s)) (Ok (restrict m p))
   call_node : {d : ℕ} → TermNode n (Some (Call d)) (Ok (call d))
 
 -- A string that is a proof, likewise.
 pub data ProofNode : Option NodeOfProof → Result Proof ℕ → Type 0 where
   no_proof : {k : ℕ} → ProofNode None (Err k)
   act_node : {a : ℕ} → ProofNode (Some (Act a)) (Ok (act a))
-  left_node : {s : Str} {t : Proof} → read_proof s ≡ Ok t → ProofNode (Some (Left s)) (Ok (on_left t))
-  right_node : {s : Str} {t : Proof} → read_proof s ≡ Ok t → ProofNode (Some (Right s)) (Ok (on_right t))
-  both_node : {s r : Str} {t u : Proof} → read_proof s ≡ Ok t → read_proof r ≡ Ok u → ProofNode (Some (Both s r)) (Ok (both t u))
-  choose_left_node : {s : Str} {t : Proof} → read_proof s ≡ Ok t → ProofNode (Some (ChooseLeft s)) (Ok (choose_left t))
-  choose_right_node : {s : Str} {t : Proof} → read_proof s ≡ Ok t → ProofNode (Some (ChooseRight s)) (Ok (choose_right t))
-  under_node : {m : ℕ} {s : Str} {t : Proof} → read_proof s ≡ Ok t → ProofNode (Some (Under m s)) (Ok (under m t))
+  left_node : {s : Str} {t : Proof} → read_proof s ≡ Ok t
+      → ProofNode (Some (Left s)) (Ok (on_left t))
+  right_node : {s : Str} {t : Proof} → read_proof s ≡ Ok t
+      → ProofNode (Some (Right s)) (Ok (on_right t))
+  both_node : {s r : Str} {t u : Proof} → read_proof s ≡ Ok t → read_proof r ≡ Ok u
+      → ProofNode (Some (Both s r)) (Ok (both t u))
+  choose_left_node : {s : Str} {t : Proof} → read_proof s ≡ Ok t
+      → ProofNode (Some (ChooseLeft s)) (Ok (choose_left t))
+  choose_right_node : {s : Str} {t : Proof} → read_proof s ≡ Ok t
+      → ProofNode (Some (ChooseRight s)) (Ok (choose_right t))
+  under_node : {m : ℕ} {s : Str} {t : Proof} → read_proof s ≡ Ok t
+      → ProofNode (Some (Under m s)) (Ok (under m t))
 
 -- A node's own bytes and its parts together are the string: one byte is its own, or two.
 abbrev pub Fills : Option NodeOfProof → ℕ → Type 0
@@ -113,7 +124,8 @@ sides_of (ChooseLeft s) = None
 sides_of (ChooseRight s) = None
 sides_of (Under m s) = None
 
--- what it does in the left branch of a choice, in the right one, and under the restriction of a name
+-- what it does in the left branch of a choice, in the right one, and under the restriction of a
+-- name
 abbrev pub left_branch_of : NodeOfProof → Option Str
 left_branch_of (Act a) = None
 left_branch_of (Left s) = None
@@ -141,7 +153,8 @@ under_of n (ChooseLeft s) = None
 under_of n (ChooseRight s) = None
 under_of n (Under m s) = if nat_eq n m then Some s else None
 
--- what a term does next: the rest behind an action, two sides, two branches, a term under a restriction, the body of a definition
+-- what a term does next: the rest behind an action, two sides, two branches, a term under a
+-- restriction, the body of a definition
 abbrev pub rest_of : ℕ → NodeOfTerm → Option Str
 rest_of a Nil = None
 rest_of a (Prefix b s) = if nat_eq b a then Some s else None

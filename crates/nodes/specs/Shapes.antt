@@ -1,4 +1,4 @@
--- The node that a first byte makes of the bytes behind it, whatever the parts are. Assumes nothing.
+-- The node that a first byte makes of the bytes behind it, whatever the parts are.
 use Rattle.std.specs.Prelude.{ℕ, [], ◌∷◌, Some, None, Option, nat_eq, if◌then◌else◌}
 use Rattle.ccs.specs.declared.node_bytes.TheConstants.{NIL, PREFIX, PARALLEL, SUM, RESTRICTION, CALL, ACT, LEFT, RIGHT, BOTH, CHOOSE_LEFT, CHOOSE_RIGHT, UNDER}
 use Rattle.steps.specs.Meaning.{Str}
@@ -33,7 +33,8 @@ proof_shape kind s =
     if nat_eq kind ACT then own_only Act s
     else if nat_eq kind LEFT then Some (Left s)
     else if nat_eq kind RIGHT then Some (Right s)
-    else if nat_eq kind BOTH then two_parts Both (split_answer (whole (fits_of proof_byte) start s) s)
+    else if nat_eq kind BOTH
+    then two_parts Both (split_answer (whole (fits_of proof_byte) start s) s)
     else if nat_eq kind CHOOSE_LEFT then Some (ChooseLeft s)
     else if nat_eq kind CHOOSE_RIGHT then Some (ChooseRight s)
     else if nat_eq kind UNDER then own_and_part Under s else None
@@ -42,7 +43,9 @@ abbrev pub term_shape : ℕ → ℕ → Str → Option NodeOfTerm
 term_shape n kind s =
     if nat_eq kind NIL then Some Nil
     else if nat_eq kind PREFIX then own_and_part Prefix s
-    else if nat_eq kind PARALLEL then two_parts Par (split_answer (whole (fits_of (term_byte n)) start s) s)
-    else if nat_eq kind SUM then two_parts Sum (split_answer (whole (fits_of (term_byte n)) start s) s)
+    else if nat_eq kind PARALLEL
+    then two_parts Par (split_answer (whole (fits_of (term_byte n)) start s) s)
+    else if nat_eq kind SUM
+    then two_parts Sum (split_answer (whole (fits_of (term_byte n)) start s) s)
     else if nat_eq kind RESTRICTION then own_and_part Restrict s
     else if nat_eq kind CALL then own_only Call s else None

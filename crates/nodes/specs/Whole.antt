@@ -1,4 +1,4 @@
--- How far a string is one term or proof, by what is due behind each byte. Assumes nothing.
+-- How far a string is one term or proof, by what is due behind each byte.
 use Rattle.std.specs.Prelude.{◌≡◌, ℕ, zero, suc, ◌+◌, ◌≤◌, Bool, false, [], ◌∷◌, Some, None, Ok, Err, Option, Result, ◌==◌, nat_lt, nat_le, length, take, drop, if◌then◌else◌}
 use Rattle.steps.specs.Meaning.{Str}
 use Rattle.ccs.specs.declared.due.Due.{Due}
@@ -15,28 +15,34 @@ abbrev pub start : Wanted
 start = record { due = Node; count = 1 }
 
 -- nothing is due any more
-abbrev pub finished : Due → ℕ → Bool
-finished Node count = count == 0
-finished Action count = false
-finished Name count = false
-finished Number count = false
+abbrev pub is_over : Due → ℕ → Bool
+is_over Node count = count == 0
+is_over Action count = false
+is_over Name count = false
+is_over Number count = false
 
 abbrev pub done : Wanted → Bool
-done w = finished w.due w.count
+done w = is_over w.due w.count
 
 -- one byte further on
 abbrev pub one_on : Result ℕ ℕ → Result ℕ ℕ
 one_on (Ok n) = Ok (1 + n)
 one_on (Err p) = Err (1 + p)
 
--- the length of the shortest beginning behind which nothing is due; else the place of the first byte
--- that does not fit
+-- how far the rest goes behind a byte: nowhere where the byte does not fit, and no further where
+-- nothing is due any more
+abbrev pub behind_byte : Option Wanted → (Wanted → Result ℕ ℕ) → Result ℕ ℕ
+behind_byte None rest = Err 0
+behind_byte (Some v) rest = if done v then Ok 1 else one_on (rest v)
+
+-- the length of the shortest beginning behind which nothing is due; else the place of the first
+-- byte that does not fit
 unfoldable pub whole : (Wanted → ℕ → Option Wanted) → Wanted → Str → Result ℕ ℕ
 whole fits w [] = Err 0
-whole fits w (b ∷ s) = elim (fits w b) [ None ↦ Err 0 | Some v ↦ if done v then Ok 1 else one_on (whole fits v s) ]
+whole fits w (b ∷ s) = behind_byte (fits w b) (λ v. whole fits v s)
 
--- the place of the first byte that fits none: a string goes on behind its first term or proof, or ends
--- before
+-- the place of the first byte that fits none: a string goes on behind its first term or proof, or
+-- ends before
 abbrev pub whole_fault : Result ℕ ℕ → ℕ → Option ℕ
 whole_fault (Ok n) l = if nat_lt n l then Some n else None
 whole_fault (Err p) l = Some p
@@ -61,4 +67,5 @@ ahead fits l (suc k) s = shifted l (whole fits (record { due = Node; count = suc
 abbrev pub IsSize : (Wanted → ℕ → Option Wanted) → ℕ → ℕ → ℕ → Type 0
 IsSize fits kind own parts =
     (d : ℕ) (s : Str) (n : ℕ) → whole fits (record { due = Node; count = suc d }) (kind ∷ s) ≡ Ok n
-    → whole fits (record { due = Node; count = suc d }) (kind ∷ s) ≡ ahead fits own (parts + d) (drop own (kind ∷ s))
+    → whole fits (record { due = Node; count = suc d }) (kind ∷ s)
+    ≡ ahead fits own (parts + d) (drop own (kind ∷ s))

@@ -104,7 +104,8 @@ impl Proof<'_> {
 }
 
 impl<'a> Proof<'a> {
-    // The parts on the left and on the right of a parallel term; none where it is a step of no parallel term.
+    // The parts on the left and on the right of a parallel term; none where it is a step of no
+    // parallel term.
     pub fn sides(self) -> Option<(Option<&'a [u8]>, Option<&'a [u8]>)>
         ensures { sides_view result ≡ sides_of (node_of_proof self.entry) }
     {

@@ -92,7 +92,8 @@ pub fn fault<G: Grammar>(grammar: &G, bytes: &[u8]) -> Option<usize>
 // The first term or proof of a string that begins with one, and what stands behind it.
 pub(crate) fn split<'a, G: Grammar>(grammar: &G, bytes: &'a [u8]) -> (&'a [u8], &'a [u8])
     requires { IsTrue (is_ok (whole (G.fits grammar.now) start bytes.now)) }
-    ensures { pair_view (Some result) ≡ split_answer (whole (G.fits grammar.now) start bytes.now) bytes.now }
+    ensures { pair_view (Some result)
+        ≡ split_answer (whole (G.fits grammar.now) start bytes.now) bytes.now }
 {
     bytes.split_at(length(grammar, bytes))
 }

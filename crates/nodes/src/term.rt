@@ -73,7 +73,9 @@ impl Terms {
     #[tactic(auto, unfolding(ccs::specs::Reading::term_byte))]
     fn node_byte(&self, rest: usize, byte: u8) -> Option<Wanted>
         requires { rest < 2 ^ 63 }
-        ensures next { result ≡ fits_of (term_byte self.now.definitions) (record { due = Node; count = suc rest }) byte }
+        ensures next { result ≡
+            fits_of (term_byte self.now.definitions)
+            (record { due = Node; count = suc rest }) byte }
         ensures few { at_most_one_more result (suc rest) }
     {
         match byte {
@@ -129,7 +131,8 @@ impl Term<'_> {
     // Its parts are terms over them, so nothing is read again.
     pub fn of(definitions: u8, bytes: &[u8]) -> Term<'_>
         requires { IsTrue (is_ok (read_term definitions bytes.now)) }
-        ensures node { TermNode definitions (Some (node_of_term result)) (read_term definitions bytes.now) }
+        ensures node { TermNode definitions
+            (Some (node_of_term result)) (read_term definitions bytes.now) }
         ensures parts { TermsRead definitions (node_of_term result) }
     {
         let terms = Terms { definitions };

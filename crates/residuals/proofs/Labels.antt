@@ -1,4 +1,4 @@
--- What a string shows that begins with a proof. Assumes nothing.
+-- What a string shows that begins with a proof.
 use Rattle.std.proofs.Common.{◌≡◌, ℕ, true, is_ok, [], ◌++◌, Ok, Err, Result, sym, refl, ap, ◌∙◌, append-nil}
 use Rattle.steps.specs.Meaning.{Str}
 use Rattle.steps.specs.declared.label.Label.{Label}
@@ -9,10 +9,10 @@ use Rattle.ccs.specs.Spelling.{proof_bytes}
 use Rattle.ccs.specs.Reading.{read_proof}
 use Rattle.ccs.specs.System.{label_of}
 use Rattle.ccs.proofs.ProofReading.{read_is_proof}
-use Rattle.residuals.specs.Steps.{shown_behind, shown}
+use Rattle.residuals.specs.Steps.{shown_action_behind, shown_action}
 
-shows : (t : Proof) (s : Str) → shown (proof_bytes t ++ s) ≡ label t
-unfolding proof_bytes shown_behind label
+shows : (t : Proof) (s : Str) → shown_action (proof_bytes t ++ s) ≡ label t
+unfolding proof_bytes shown_action_behind label
 shows (act a) s = refl
 shows (on_left t) s = shows t s
 shows (on_right t) s = shows t s
@@ -22,13 +22,14 @@ shows (choose_right t) s = shows t s
 shows (under n t) s = shows t s
 
 -- so of a string that is a proof
-pub shown_is : (s : Str) (t : Proof) → read_proof s ≡ Ok t → shown s ≡ label t
-shown_is s t e = ap shown (sym (append-nil (proof_bytes t) ∙ (read_is_proof s t e).0)) ∙ shows t []
+pub shown_is : (s : Str) (t : Proof) → read_proof s ≡ Ok t → shown_action s ≡ label t
+shown_is s t e = ap shown_action (sym (append-nil (proof_bytes t) ∙ (read_is_proof s t e).0)) ∙ shows t []
 
 -- so does the label
-pub labelled : (s : Str) → is_ok (read_proof s) ≡ true → record { action = shown s } ≡ label_of (read_proof s)
+pub labelled : (s : Str) → is_ok (read_proof s) ≡ true → record { action = shown_action s } ≡ label_of (read_proof s)
 labelled s e = go (read_proof s) refl e
   where
-    go : (r : Result Proof ℕ) → read_proof s ≡ r → is_ok r ≡ true → ◌≡◌ {A = Label} (record { action = shown s }) (label_of r)
+    go : (r : Result Proof ℕ) → read_proof s ≡ r → is_ok r ≡ true
+        → ◌≡◌ {A = Label} (record { action = shown_action s }) (label_of r)
     go (Ok t) f g = ap (λ a. record { action = a }) (shown_is s t f)
     go (Err k) f g = absurd (cc g)

@@ -1,4 +1,4 @@
--- What a node tells of the first improper node. Assumes nothing.
+-- What a node tells of the first improper node.
 use Rattle.std.proofs.Common.{◌≡◌, ℕ, ◌+◌, cond, length, Some, None, Ok, Option, Result, nat_eq, refl, ap, ap₂, arith}
 use Rattle.steps.specs.Meaning.{Str}
 use Rattle.ccs.specs.Syntax.{Proof}
@@ -8,7 +8,7 @@ use Rattle.ccs.specs.Improper.{further, or_else, improper}
 use Rattle.ccs.specs.Reading.{read_proof}
 use Rattle.ccs.specs.System.{improper_of}
 use Rattle.ccs.proofs.ProofReading.{read_is_proof}
-use Rattle.residuals.specs.Steps.{shown}
+use Rattle.residuals.specs.Steps.{shown_action}
 use Rattle.residuals.proofs.Labels.{shown_is}
 use Rattle.nodes.specs.Nodes.{NodeOfProof, ProofNode}
 use Rattle.nodes.specs.Nodes.NodeOfProof.{Act, Left, Right, Both, ChooseLeft, ChooseRight, Under}
@@ -22,10 +22,11 @@ abbrev pub improper_at : NodeOfProof → Option ℕ
 improper_at (Act a) = None
 improper_at (Left s) = further 1 (first_improper s)
 improper_at (Right s) = further 1 (first_improper s)
-improper_at (Both s r) = cond (complementary (shown s) (shown r)) (or_else (further 1 (first_improper s)) (further (1 + length s) (first_improper r))) (Some 0)
+improper_at (Both s r) = cond (complementary (shown_action s) (shown_action r))
+    (or_else (further 1 (first_improper s)) (further (1 + length s) (first_improper r))) (Some 0)
 improper_at (ChooseLeft s) = further 1 (first_improper s)
 improper_at (ChooseRight s) = further 1 (first_improper s)
-improper_at (Under m s) = cond (nat_eq (name_of (shown s)) m) (Some 0) (further 2 (first_improper s))
+improper_at (Under m s) = cond (nat_eq (name_of (shown_action s)) m) (Some 0) (further 2 (first_improper s))
 
 first_is : (s : Str) (t : Proof) → read_proof s ≡ Ok t → first_improper s ≡ improper t
 first_is s t e = ap improper_of e
@@ -37,7 +38,9 @@ improper_is (left_node {s = s} {t = t} e) = ap (further 1) (first_is s t e)
 improper_is (right_node {s = s} {t = t} e) = ap (further 1) (first_is s t e)
 improper_is (both_node {s = s} {r = r} {t = t} {u = u} e f) =
     rw (shown_is s t e, shown_is r u f, first_is s t e, first_is r u f)
-    (ap (λ k. cond (complementary (label t) (label u)) (or_else (further 1 (improper t)) (further k (improper u))) (Some 0)) (omega (arith, ap length (read_is_proof s t e).0)))
+    (ap (λ k. cond (complementary (label t) (label u)) (or_else (further 1 (improper t)) (further k (improper u)))
+    (Some 0)) (omega (arith, ap length (read_is_proof s t e).0)))
 improper_is (choose_left_node {s = s} {t = t} e) = ap (further 1) (first_is s t e)
 improper_is (choose_right_node {s = s} {t = t} e) = ap (further 1) (first_is s t e)
-improper_is (under_node {m = m} {s = s} {t = t} e) = ap₂ (λ a o. cond (nat_eq (name_of a) m) (Some 0) (further 2 o)) (shown_is s t e) (first_is s t e)
+improper_is (under_node {m = m} {s = s} {t = t} e) = ap₂ (λ a o. cond (nat_eq (name_of a) m) (Some 0) (further 2 o))
+    (shown_is s t e) (first_is s t e)

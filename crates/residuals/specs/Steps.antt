@@ -1,4 +1,4 @@
--- What is answered of strings that are to be proofs. Assumes nothing.
+-- What is answered of strings that are to be proofs.
 use Rattle.std.specs.Prelude.{ℕ, ◌≤◌, Bool, true, false, nat_eq, [], ◌∷◌, Some, None, Option, is_ok, IsTrue, if◌then◌else◌}
 use Rattle.steps.specs.Meaning.{Str}
 use Rattle.ccs.specs.Reading.{read_proof}
@@ -32,17 +32,18 @@ abbrev pub first_byte : Str → ℕ
 first_byte [] = 0
 first_byte (a ∷ s) = a
 
--- what a string shows that begins with a proof, behind a name or not: two sides together are silent, and so is what is none
-unfoldable pub shown_behind : Bool → Str → ℕ
-shown_behind named [] = 0
-shown_behind true (n ∷ s) = shown_behind false s
-shown_behind false (b ∷ s) =
+-- what a string shows that begins with a proof, behind a name or not: two sides together are
+-- silent, and so is what is none
+unfoldable pub shown_action_behind : Bool → Str → ℕ
+shown_action_behind named [] = 0
+shown_action_behind true (n ∷ s) = shown_action_behind false s
+shown_action_behind false (b ∷ s) =
     if nat_eq b 0x10 then first_byte s
-    else if nat_eq b 0x11 then shown_behind false s
-    else if nat_eq b 0x12 then shown_behind false s
-    else if nat_eq b 0x14 then shown_behind false s
-    else if nat_eq b 0x15 then shown_behind false s
-    else if nat_eq b 0x16 then shown_behind true s else 0
+    else if nat_eq b 0x11 then shown_action_behind false s
+    else if nat_eq b 0x12 then shown_action_behind false s
+    else if nat_eq b 0x14 then shown_action_behind false s
+    else if nat_eq b 0x15 then shown_action_behind false s
+    else if nat_eq b 0x16 then shown_action_behind true s else 0
 
-abbrev pub shown : Str → ℕ
-shown = shown_behind false
+abbrev pub shown_action : Str → ℕ
+shown_action = shown_action_behind false

@@ -4,12 +4,12 @@ ghost use Rattle.ccs.specs.Reading.{read_proof};
 ghost use Rattle.ccs.specs.System.{improper_of};
 ghost use Rattle.residuals.specs.Steps.{Within};
 
-use crate::label::shown;
+use crate::label::shown_action;
 use actions::action::{complementary, name_of};
 use nodes::proof::Proof;
 
-// The first improper node of a proof, by the place of its first byte: two sides that show no name and its
-// co-name, or a restriction of the name that is shown.
+// The first improper node of a proof, by the place of its first byte: two sides that show no name
+// and its co-name, or a restriction of the name that is shown.
 pub fn improper(step: &[u8]) -> Option<usize>
     requires { IsTrue (is_ok (read_proof step.now)) }
     ensures place { result ≡ improper_of (read_proof step.now) }
@@ -22,7 +22,7 @@ pub fn improper(step: &[u8]) -> Option<usize>
         | Proof::ChooseLeft(part)
         | Proof::ChooseRight(part) => Some(1 + improper(part)?),
         Proof::Both(first, second) => {
-            if !complementary(shown(first), shown(second)) {
+            if !complementary(shown_action(first), shown_action(second)) {
                 return Some(0);
             }
             if let Some(place) = improper(first) {
@@ -31,7 +31,7 @@ pub fn improper(step: &[u8]) -> Option<usize>
             Some(1 + first.len() + improper(second)?)
         }
         Proof::Under(name, part) => {
-            if name_of(shown(part)) == name {
+            if name_of(shown_action(part)) == name {
                 return Some(0);
             }
             Some(2 + improper(part)?)

@@ -2,7 +2,7 @@
 ghost use Rattle.std.specs.Prelude.{◌≡◌, is_ok, IsTrue};
 ghost use Rattle.ccs.specs.Reading.{read_proof};
 ghost use Rattle.ccs.specs.System.{label_of};
-ghost use Rattle.residuals.specs.Steps.{shown};
+ghost use Rattle.residuals.specs.Steps.{shown_action};
 
 use nodes::proof::Proof;
 use steps::label::Label;
@@ -13,15 +13,15 @@ pub fn label(step: &[u8]) -> Label
     ensures { result ≡ label_of (read_proof step.now) }
 {
     Label {
-        action: shown(step),
+        action: shown_action(step),
     }
 }
 
 // What a string shows that begins with a proof: its nodes are gone through as far as the prefix.
 // Not by `Proof::of`, which would split a handshake for nothing.
-#[tactic(auto, unfolding(crate::specs::Steps::shown_behind))]
-pub(crate) fn shown(step: &[u8]) -> u8
-    ensures { result ≡ shown step.now }
+#[tactic(auto, unfolding(crate::specs::Steps::shown_action_behind))]
+pub(crate) fn shown_action(step: &[u8]) -> u8
+    ensures { result ≡ shown_action step.now }
 {
     let Some((kind, rest)) = step.split_first() else {
         return 0;
@@ -31,9 +31,9 @@ pub(crate) fn shown(step: &[u8]) -> u8
             Some(action) => *action,
             None => 0,
         },
-        0x11 | 0x12 | 0x14 | 0x15 => shown(rest),
+        0x11 | 0x12 | 0x14 | 0x15 => shown_action(rest),
         0x16 => match rest.split_first() {
-            Some((_, part)) => shown(part),
+            Some((_, part)) => shown_action(part),
             None => 0,
         },
         _ => 0,

@@ -1,6 +1,5 @@
-// Steps of terms as proofs in their bytes: what they show, which are proper, what is left of one after
-// another, and back.
-// It rests on `nodes` for the reading of bytes, on `ccs` for the meaning,
+// Steps of terms as proofs in their bytes: what they show, which are proper, what is left of one
+// after another, and back. It rests on `nodes` for the reading of bytes, on `ccs` for the meaning,
 // and on `byte_strings` and `steps`.
 #![tactic(auto)]
 
@@ -9,3 +8,5 @@ pub mod label;
 pub mod origin;
 pub mod residual;
 pub mod sink;
+
+pub use sink::Sink;

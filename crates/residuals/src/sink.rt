@@ -1,14 +1,14 @@
 // Bytes written one behind the other: as many as a state may have are kept, and all are counted.
 ghost use Rattle.std.specs.Prelude.{◌≡◌, length};
 ghost use Rattle.byte_strings.specs.Buffer.{count, buffer_after};
-ghost use Rattle.residuals.specs.Sink.{empty, with_byte, poured, put_answer};
+ghost use Rattle.residuals.specs.Sink.{empty_sink, with_byte, sink_after, put_answer};
 
 use byte_strings::buffer;
 use byte_strings::held::Held;
 use steps::STATE_LIMIT;
 
-// What is written here may turn out longer than it may be, and then its length is told: so it is counted,
-// and kept as far as it may be asked for.
+// What is written here may turn out longer than it may be, and then its length is told: so it is
+// counted, and kept as far as it may be asked for.
 #[derive(Clone, Copy)]
 pub struct Sink {
     kept: Held<STATE_LIMIT>,
@@ -19,7 +19,7 @@ pub struct Sink {
 impl Sink {
     // Nothing is written yet.
     pub fn new() -> Sink
-        ensures { result ≡ empty }
+        ensures { result ≡ empty_sink }
     {
         Sink {
             kept: Held::empty(),
@@ -37,7 +37,7 @@ impl Sink {
 
     // Writes a string behind.
     pub fn bytes(&mut self, text: &[u8])
-        ensures { self.new ≡ poured self.old text.now }
+        ensures { self.new ≡ sink_after self.old text.now }
     {
         self.kept.append(text);
         let more = u16::try_from(text.len()).unwrap_or(u16::MAX);
@@ -51,9 +51,8 @@ impl Sink {
         self.kept.items()
     }
 
-    // Writes all over the front of a buffer and answers the length;
-    // the length that is needed, and the buffer as it was, where that is more than is kept or than the
-    // buffer has.
+    // Writes all over the front of a buffer and answers the length; the length that is needed, and
+    // the buffer as it was, where that is more than is kept or than the buffer has.
     pub fn put(&self, out: &mut [u8]) -> Result<usize, u16>
         ensures answer { result ≡ count (put_answer self.now (length out.old)) }
         ensures buffer { out.new ≡ buffer_after (put_answer self.now (length out.old)) out.old }

@@ -2,8 +2,8 @@
 use Rattle.std.proofs.Common.{◌≡◌, ℕ, ◌+◌, ◌<◌, nat_lt, List, [], ◌∷◌, ◌++◌, length, Some, None, Ok, Err, Option, Result, sym, refl, ap, ◌∙◌, arith, length-append, append-nil}
 use Rattle.std.proofs.lemmas.Bool.{cond-true, lt-ltb}
 use Rattle.byte_strings.specs.Buffer.{Str}
-use Rattle.terms.specs.declared.terms.contents.BodyFault.{BodyFault}
-use Rattle.terms.specs.declared.terms.contents.BodyFault.TheVariants.{NoBody}
+use Rattle.terms.specs.declared.body.BodyFault.{BodyFault}
+use Rattle.terms.specs.declared.body.BodyFault.TheVariants.{NoBody}
 use Rattle.terms.specs.Bodies.{body_fault, add_fault, add_answer, bodies_after, place_of}
 use Rattle.frame.specs.Frames.{definitions}
 use Rattle.frame.proofs.Places.{definitions-append}

@@ -10,7 +10,7 @@ use Rattle.ccs.proofs.TermReading.{read_is_term}
 use Rattle.ccs.proofs.Cases.{both_of}
 use Rattle.terms.specs.Bodies.{body_fault, sound_bodies_of, body_in, terms_in}
 use Rattle.terms.specs.BodyLaws.{IsBody, BodyFaultAt}
-use Rattle.terms.specs.Sound.{is_body, body_is, terms_sound}
+use Rattle.terms.specs.Laws.Sound.{is_body, body_is, terms_sound}
 use Rattle.terms.proofs.Added.{push_sound}
 use Rattle.terms.proofs.Bodies.{bodies_told}
 use Rattle.frame.specs.declared.fault.FrameFault.{FrameFault}

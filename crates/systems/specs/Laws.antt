@@ -5,7 +5,7 @@ use Rattle.ccs.proofs.System.{terms_laws}
 use Rattle.nets.specs.Contents.{events_of}
 use Rattle.nets.specs.Laws.{net_laws}
 use Rattle.terms.specs.Contents.{terms_of}
-use Rattle.terms.specs.Sound.{terms_sound}
+use Rattle.terms.specs.Laws.Sound.{terms_sound}
 use Rattle.systems.specs.declared.terms_or_net.TermsOrNet.{TermsOrNet}
 use Rattle.systems.specs.declared.terms_or_net.TermsOrNet.TheVariants as variant
 use Rattle.systems.specs.Design.{design_of, transitions_of, independence_of}

@@ -1,4 +1,4 @@
--- Which strings are bodies, and what is told of the others. Assumes nothing.
+-- Which strings are bodies, and what is told of the others.
 use Rattle.std.proofs.Common.{◌≡◌, ℕ, ◌≤◌, Bool, true, false, cond, not, [], ◌∷◌, length, is_some, Some, None, Option, nat_eq, nat_le, sym, refl, ap, ◌∙◌, subst, arith}
 use Rattle.std.specs.Result.{result_err}
 use Rattle.std.proofs.lemmas.Bool.{eqb-true, ne_eqb, leb-true, le-leb, cond-true, cond-false}
@@ -14,7 +14,7 @@ use Rattle.ccs.proofs.Places.{term_place}
 use Rattle.terms.specs.Bodies.{body_limit, body_fault}
 use Rattle.terms.specs.BodyLaws.{IsBody, BodyFaultAt, BodiesTold}
 use Rattle.terms.specs.BodyLaws.BodyFaultAt.{a_call, unfit}
-use Rattle.terms.specs.Sound.{is_body}
+use Rattle.terms.specs.Laws.Sound.{is_body}
 
 -- a term that is no call begins with no call
 no_call : (p : Term) (b : ℕ) (s : Str) → term_bytes p ≡ b ∷ s → plain p ≡ true → b ≡ 0x05 → ⊥
@@ -29,7 +29,8 @@ no_call (call d) b s e f g = absurd (cc f)
 within : (s : Str) (o : Option ℕ) → past body_limit s o ≡ None → length s ≤ body_limit
 within s None e = go (nat_le (length s) body_limit) refl e
   where
-    go : (c : Bool) → nat_le (length s) body_limit ≡ c → cond {A = Option ℕ} c None (Some body_limit) ≡ None → length s ≤ body_limit
+    go : (c : Bool) → nat_le (length s) body_limit ≡ c → cond {A = Option ℕ} c None (Some body_limit) ≡ None
+        → length s ≤ body_limit
     go true f e = leb-true (length s) body_limit f
     go false f e = absurd (cc e)
 within s (Some k) e = absurd (cc e)
@@ -61,7 +62,8 @@ none_of_body n s (p, bytes, sound, own, few) = subst (λ s. body_fault n s ≡ N
     fits : (z : Str) → term_bytes p ≡ z → past body_limit z (result_err (read_term n z)) ≡ None
     fits z e =
         ap (λ r. past body_limit z (result_err r)) (ap (read_term n) (sym e) ∙ term_is_read n p sound)
-        ∙ cond-true (nat_le (length z) body_limit) _ _ (le-leb _ _ (subst (λ z. length z ≤ body_limit) (sym bytes ∙ e) few))
+        ∙ cond-true (nat_le (length z) body_limit) _ _
+        (le-leb _ _ (subst (λ z. length z ≤ body_limit) (sym bytes ∙ e) few))
 
     go : (z : Str) → term_bytes p ≡ z → body_fault n z ≡ None
     go [] e = fits [] e
@@ -71,7 +73,9 @@ place_of : (n : ℕ) (s : Str) (k : ℕ) → body_fault n s ≡ Some k → BodyF
 place_of n [] k e = let h = term_place n body_limit [] k e in unfit (λ r f. absurd (cc f)) h.0 h.1
 place_of n (b ∷ s) k e = go (nat_eq b 0x05) refl e
   where
-    go : (c : Bool) → nat_eq b 0x05 ≡ c → cond c (Some 0) (past body_limit (b ∷ s) (result_err (read_term n (b ∷ s)))) ≡ Some k → BodyFaultAt n (b ∷ s) k
+    go : (c : Bool) → nat_eq b 0x05 ≡ c
+        → cond c (Some 0) (past body_limit (b ∷ s) (result_err (read_term n (b ∷ s)))) ≡ Some k
+        → BodyFaultAt n (b ∷ s) k
     go true f e =
         let five : b ≡ 0x05 = eqb-true b 0x05 f in
         let zero : 0 ≡ k = cc e in

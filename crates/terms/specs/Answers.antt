@@ -1,4 +1,4 @@
--- What is checked of the strings that are given, and what is answered of a sink. Assumes nothing.
+-- What is checked of the strings that are given, and what is answered of a sink.
 use Rattle.std.specs.Prelude.{ℕ, List, [], Some, None, Ok, Err, Option, Result}
 use Rattle.steps.specs.Meaning.{Str}
 use Rattle.steps.specs.declared.fault.MaskFault.{MaskFault}
@@ -10,16 +10,16 @@ use Rattle.ccs.specs.System.{terms_transitions}
 use Rattle.residuals.specs.declared.sink.Sink.{Sink}
 use Rattle.residuals.specs.Sink.{put_answer}
 
-abbrev pub checked : (ℕ → SystemFault) → Option ℕ → Result (Unit {0}) SystemFault
-checked f None = Ok tt
-checked f (Some k) = Err (f k)
+abbrev pub check_answer : (ℕ → SystemFault) → Option ℕ → Result (Unit {0}) SystemFault
+check_answer f None = Ok tt
+check_answer f (Some k) = Err (f k)
 
-abbrev pub state_checked : List Term → Str → Result (Unit {0}) SystemFault
-state_checked ds s = checked NoState ((terms_transitions ds).bad_state s)
+abbrev pub state_check_answer : List Term → Str → Result (Unit {0}) SystemFault
+state_check_answer ds s = check_answer NoState ((terms_transitions ds).bad_state s)
 
 -- of a step it is the same whatever the definitions are
-abbrev pub step_checked : Str → Result (Unit {0}) SystemFault
-step_checked x = checked NoStep ((terms_transitions []).bad_step x)
+abbrev pub step_check_answer : Str → Result (Unit {0}) SystemFault
+step_check_answer x = check_answer NoStep ((terms_transitions []).bad_step x)
 
 -- a state that was written, or that it is too long
 abbrev pub state_or_length : Result Str ℕ → Result Str MaskFault

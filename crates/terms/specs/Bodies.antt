@@ -1,4 +1,4 @@
--- The bodies of definitions, as strings and as terms. Assumes nothing.
+-- The bodies of definitions, as strings and as terms.
 use Rattle.std.specs.Prelude.{ℕ, ◌-◌, ◌≤◌, Bool, true, ◌&&◌, not, List, [], ◌∷◌, ◌++◌, length, map, replicate, is_some, Some, None, Ok, Err, Option, Result, nat_eq, nat_lt, if◌then◌else◌}
 use Rattle.std.specs.Result.{result_err}
 use Rattle.steps.specs.Meaning.{Str}
@@ -7,8 +7,8 @@ use Rattle.ccs.specs.Syntax.Term.{nil}
 use Rattle.ccs.specs.Reading.{read_term}
 use Rattle.ccs.specs.System.{past}
 use Rattle.terms.specs.declared.limits.TheConstants.{DEFINITION_LIMIT, BODY_LIMIT}
-use Rattle.terms.specs.declared.terms.contents.BodyFault.{BodyFault}
-use Rattle.terms.specs.declared.terms.contents.BodyFault.TheVariants.{Full, NoBody}
+use Rattle.terms.specs.declared.body.BodyFault.{BodyFault}
+use Rattle.terms.specs.declared.body.BodyFault.TheVariants.{Full, NoBody}
 
 -- the most definitions, and the most bytes of a body
 abbrev pub definition_limit : ℕ
@@ -20,7 +20,8 @@ body_limit = BODY_LIMIT
 -- the first byte that fits no body over n definitions: a body is a term, and begins with no call
 abbrev pub body_fault : ℕ → Str → Option ℕ
 body_fault n [] = past body_limit [] (result_err (read_term n []))
-body_fault n (b ∷ s) = if nat_eq b 0x05 then Some 0 else past body_limit (b ∷ s) (result_err (read_term n (b ∷ s)))
+body_fault n (b ∷ s) = if nat_eq b 0x05 then Some 0
+    else past body_limit (b ∷ s) (result_err (read_term n (b ∷ s)))
 
 -- each is a body
 unfoldable pub sound_bodies_of : ℕ → List Str → Bool

@@ -1,4 +1,5 @@
--- The definitions that terms may call: how many, the bodies of the first of them, and all of them as terms. Assumes nothing.
+-- The definitions that terms may call: how many, the bodies of the first of them, and all of them
+-- as terms.
 use Rattle.std.specs.Prelude.{ℕ, List}
 use Rattle.steps.specs.Meaning.{Str}
 use Rattle.ccs.specs.Syntax.{Term}

@@ -1,7 +1,7 @@
 pub mod Bodies
 pub mod BodyLaws
 pub mod Contents
-pub mod Sound
+pub mod Laws
 pub mod Follow
 pub mod Answers
 pub mod Rules

@@ -6,9 +6,9 @@ ghost use Rattle.ccs.specs.ResidualLaws.{Leaves};
 ghost use Rattle.ccs.specs.System.{terms_transitions, terms_independence};
 ghost use Rattle.ccs.proofs.System.{terms_laws};
 ghost use Rattle.terms.specs.Contents.{terms_of};
-ghost use Rattle.terms.specs.Sound.{terms_sound};
+ghost use Rattle.terms.specs.Laws.Sound.{terms_sound};
 ghost use Rattle.terms.specs.Rules.{StateRules, StepRules, LabelRules, NextWritten, StepSought, IndependentRules, WrittenIf};
-ghost use Rattle.terms.specs.Answers.{step_checked, state_put};
+ghost use Rattle.terms.specs.Answers.{step_check_answer, state_put};
 
 use crate::place::past;
 use crate::terms::Terms;
@@ -26,7 +26,7 @@ use steps::system::StepSystem;
 
 // Refuses a string that is no step, or a longer one than a step may be.
 fn check_step(step: &[u8]) -> Result<(), SystemFault>
-    ensures { result ≡ step_checked step.now }
+    ensures { result ≡ step_check_answer step.now }
 {
     if let Some(place) = past(STEP_LIMIT, step, Proof::fault(step)) {
         return Err(SystemFault::NoStep(place));
@@ -82,9 +82,11 @@ impl StepSystem for Terms {
 
     fn next(&self, state: &[u8], step: &[u8], out: &mut [u8]) -> Result<usize, MaskFault>
         ensures answer { result ≡
-            count (next_answer (terms_transitions (terms_of self.now)) state.now step.now (length out.old)) }
+            count (next_answer (terms_transitions (terms_of self.now))
+            state.now step.now (length out.old)) }
         ensures buffer { out.new ≡
-            buffer_after (next_answer (terms_transitions (terms_of self.now)) state.now step.now (length out.old)) out.old }
+            buffer_after (next_answer (terms_transitions (terms_of self.now))
+            state.now step.now (length out.old)) out.old }
         ensures rules { NextWritten self.now state.now step.now result out.old out.new }
     {
         check_step(step)?;
@@ -99,7 +101,8 @@ impl StepSystem for Terms {
 
     fn independent(&self, x: &[u8], y: &[u8]) -> Result<bool, MaskFault>
         ensures answer { result ≡
-            independent_answer (terms_transitions (terms_of self.now)) terms_independence x.now y.now }
+            independent_answer (terms_transitions (terms_of self.now)) terms_independence
+            x.now y.now }
         ensures rules { IndependentRules x.now y.now result }
     {
         check_step(x)?;
@@ -109,10 +112,14 @@ impl StepSystem for Terms {
 
     fn residual(&self, x: &[u8], y: &[u8], out: &mut [u8]) -> Result<Option<usize>, MaskFault>
         ensures answer { result ≡
-            count_some (left_answer (terms_transitions (terms_of self.now)) terms_independence x.now y.now (length out.old)) }
+            count_some (left_answer (terms_transitions (terms_of self.now)) terms_independence
+            x.now y.now (length out.old)) }
         ensures buffer { out.new ≡
-            buffer_after_some (left_answer (terms_transitions (terms_of self.now)) terms_independence x.now y.now (length out.old)) out.old }
-        ensures rules { WrittenIf (StepSought x.now y.now (Leaves x.now y.now) (length out.old)) result out.old out.new }
+            buffer_after_some
+            (left_answer (terms_transitions (terms_of self.now)) terms_independence
+            x.now y.now (length out.old)) out.old }
+        ensures rules { WrittenIf (StepSought x.now y.now (Leaves x.now y.now) (length out.old))
+            result out.old out.new }
     {
         check_step(x)?;
         check_step(y)?;
@@ -123,10 +130,15 @@ impl StepSystem for Terms {
 
     fn back(&self, x: &[u8], z: &[u8], out: &mut [u8]) -> Result<Option<usize>, MaskFault>
         ensures answer { result ≡
-            count_some (back_answer (terms_transitions (terms_of self.now)) terms_independence x.now z.now (length out.old)) }
+            count_some (back_answer (terms_transitions (terms_of self.now)) terms_independence
+            x.now z.now (length out.old)) }
         ensures buffer { out.new ≡
-            buffer_after_some (back_answer (terms_transitions (terms_of self.now)) terms_independence x.now z.now (length out.old)) out.old }
-        ensures rules { WrittenIf (StepSought x.now z.now (λ y. Leaves y x.now z.now) (length out.old)) result out.old out.new }
+            buffer_after_some
+            (back_answer (terms_transitions (terms_of self.now)) terms_independence
+            x.now z.now (length out.old)) out.old }
+        ensures rules { WrittenIf
+            (StepSought x.now z.now (λ y. Leaves y x.now z.now) (length out.old))
+            result out.old out.new }
     {
         check_step(x)?;
         check_step(z)?;

@@ -6,4 +6,5 @@ use Rattle.nodes.proofs.Sizes.{proof_sizes}
 use Rattle.nodes.proofs.proof.ProofsGrammar.size.Goals as goal
 
 pub returns-clause-size : goal.returns-clause-size
-returns-clause-size c = subst (λ size. IsSize (fits_of proof_byte) c.args.kind size.own size.parts) (sym c.node_size.ensures.size) (proof_sizes c.args.kind)
+returns-clause-size c = subst (λ size. IsSize (fits_of proof_byte) c.args.kind size.own size.parts)
+    (sym c.node_size.ensures.size) (proof_sizes c.args.kind)

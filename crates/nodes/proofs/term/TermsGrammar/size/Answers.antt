@@ -7,4 +7,5 @@ use Rattle.nodes.proofs.term.TermsGrammar.size.Goals as goal
 
 pub returns-clause-size : goal.returns-clause-size
 returns-clause-size c =
-    subst (λ size. IsSize (fits_of (term_byte c.args.self.now.definitions)) c.args.kind size.own size.parts) (sym c.node_size.ensures.size) (term_sizes c.args.self.now.definitions c.args.kind)
+    subst (λ size. IsSize (fits_of (term_byte c.args.self.now.definitions)) c.args.kind size.own size.parts)
+    (sym c.node_size.ensures.size) (term_sizes c.args.self.now.definitions c.args.kind)

@@ -8,11 +8,16 @@ use Rattle.terms.proofs.system.TermsStepSystem.independent.Goals as goal
 
 pub returns-in_err-check_step-clause-rules : goal.returns-in_err-check_step-clause-rules
 returns-in_err-check_step-clause-rules c =
-    at_step_fault c.args.self.now (IndependentRules c.args.x.now c.args.y.now) c.args.x.now (λ p h g. first_none h g) c.from_residual.result c.in_err-check_step.field-0.0 c.in_err-check_step.ensures c.from_residual.ensures
+    at_step_fault c.args.self.now (IndependentRules c.args.x.now c.args.y.now) c.args.x.now
+    (λ p h g. first_none h g) c.from_residual.result c.in_err-check_step.field-0.0 c.in_err-check_step.ensures
+    c.from_residual.ensures
 
 pub returns-in_err-check_step-2-clause-rules : goal.returns-in_err-check_step-2-clause-rules
 returns-in_err-check_step-2-clause-rules c =
-    at_step_fault c.args.self.now (IndependentRules c.args.x.now c.args.y.now) c.args.y.now (λ p h g. second_none (checked_is_step c.args.self.now c.args.x.now c.in_ok-check_step.ensures) h g) c.from_residual-in_err-check_step-2.result
+    at_step_fault c.args.self.now (IndependentRules c.args.x.now c.args.y.now) c.args.y.now
+    (λ p h g. second_none
+    (checked_is_step c.args.self.now c.args.x.now c.in_ok-check_step.ensures) h g)
+    c.from_residual-in_err-check_step-2.result
     c.in_err-check_step-2.field-0.0 c.in_err-check_step-2.ensures c.from_residual-in_err-check_step-2.ensures
 
 pub residual-requires-clause-first : goal.residual-requires-clause-first
@@ -24,5 +29,8 @@ residual-requires-clause-second c = read_checked c.args.y.now c.in_ok-check_step
 pub returns-clause-rules : goal.returns-clause-rules
 returns-clause-rules c =
     subst (IndependentRules c.args.x.now c.args.y.now)
-    (sym (ap Ok c.is_some.ensures ∙ independent_is (terms_of c.args.self.now) c.args.x.now c.args.y.now c.residual.result c.residual.new.sink c.new.result c.in_ok-check_step.ensures c.in_ok-check_step-2.ensures c.new.ensures c.residual.ensures))
+    (sym (ap Ok c.is_some.ensures
+    ∙ independent_is
+    (terms_of c.args.self.now) c.args.x.now c.args.y.now c.residual.result c.residual.new.sink c.new.result
+    c.in_ok-check_step.ensures c.in_ok-check_step-2.ensures c.new.ensures c.residual.ensures))
     (independent_rules c.args.self.now c.args.x.now c.args.y.now)
