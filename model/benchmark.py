@@ -35,6 +35,7 @@ MODEL_CALLS = 400
 PROGRAM_LENGTH_CALLS = 5_000
 MODEL_LENGTH_CALLS = 20
 TERM_BYTES = (64, 128, 256)
+STEP_BYTES = (16, 32, 64)
 LENGTHS = (0, 4, 8, 16, 24, 31)
 
 
@@ -223,6 +224,7 @@ class TermCase:
         beside = [bytes([OPEN, 1]) + start, bytes([ADD, 1]) + second]
         return {
             "open": CallFrames(begin, opening, []),
+            "look": CallFrames([*begin, *opening], [bytes([LOOK, 0, 0])], []),
             "add": CallFrames(begin, adding, opening),
             "withdraw": CallFrames(begin, [*adding, bytes([WITHDRAW, 0])], adding),
             "swap": CallFrames(begin + both, [bytes([SWAP, 0, 1])], []),
@@ -243,9 +245,11 @@ def of_length(length: int, action: int) -> Term:
     return chain([action] * ((length - 1) // 2), Nil() if length % 2 else Call(0))
 
 
-def nested_case(name: str, size: int, side: type, wrap: Callable[[Term], Term], vanishes: bool) -> TermCase:
-    """Two prefixes side by side below as many nodes as a step has room for."""
-    depth = min((size - 8) // 2, 61)
+def nested_case(
+    name: str, size: int, side: type, wrap: Callable[[Term], Term], vanishes: bool, most_depth: int = 61
+) -> TermCase:
+    """Two prefixes side by side below as many nodes as a step has room for, or as are wanted."""
+    depth = min((size - 8) // 2, most_depth)
     start: Term = two_ends(size - 2 * depth)
     for _ in range(depth):
         start = wrap(start)
@@ -255,20 +259,19 @@ def nested_case(name: str, size: int, side: type, wrap: Callable[[Term], Term], 
     return TermCase(f"{name}, {size} bytes", start, first, second, later)
 
 
-def meeting_case(size: int) -> TermCase:
-    """Two sides, each with prefixes below many nodes: a meeting, and a step beside one of its ends."""
-    depth = min((size // 2 - 8) // 2, 28)
+def meeting_case(size: int, most_depth: int = 28, deeper: int = 0) -> TermCase:
+    """Two sides, each with prefixes below many nodes, the right one below so many more: a meeting, and a step beside one of its ends."""
+    depth = min((size // 2 - 8) // 2, most_depth)
     sides: list[Term] = []
-    for action, rest in ((0x01, size // 2 - 1), (0x41, size - size // 2)):
-        length = rest - 2 * depth
-        side: Term = Parallel(Prefix(action, Nil()), of_length(length - 4, 0x02))
-        for _ in range(depth):
+    ends: list[Proof] = []
+    for action, rest, nodes in ((0x01, size // 2 - 1, depth), (0x41, size - size // 2, depth + deeper)):
+        side: Term = Parallel(Prefix(action, Nil()), of_length(rest - 2 * nodes - 4, 0x02))
+        for _ in range(nodes):
             side = Parallel(Nil(), side)
         sides.append(side)
-    outer = [OnRight] * depth
-    meeting = Both(behind([*outer, OnLeft], Act(0x01)), behind([*outer, OnLeft], Act(0x41)))
-    beside = OnLeft(behind([*outer, OnRight], Act(0x02)))
-    return TermCase(f"meetings, {size} bytes", Parallel(sides[0], sides[1]), meeting, beside, beside)
+        ends.append(behind([*[OnRight] * nodes, OnLeft], Act(action)))
+    beside = OnLeft(behind([*[OnRight] * depth, OnRight], Act(0x02)))
+    return TermCase(f"meetings, {size} bytes", Parallel(sides[0], sides[1]), Both(ends[0], ends[1]), beside, beside)
 
 
 def unfolding_case(size: int) -> TermCase:
@@ -291,6 +294,29 @@ def term_cases() -> list[TermCase]:
             unfolding_case(size),
         ]
     return found
+
+
+def flat_case(depth: int) -> TermCase:
+    """A balanced tree of prefixes side by side, two at each node for so many levels, and the steps of its two ends."""
+    tree, _ = tree_of_prefixes(depth)
+    first, second = behind([OnLeft] * depth, Act(0x01)), behind([OnRight] * depth, Act(0x01))
+    return TermCase(f"flat, {len(tree.encoded)} bytes", tree, first, second, second)
+
+
+def question_cases() -> dict[str, list[TermCase]]:
+    """Terms and steps of chosen lengths: by the bytes of the state, and by those of the step in a state of 256 bytes."""
+
+    def to_the_right(size: int, depth: int) -> TermCase:
+        return nested_case("nested", size, OnRight, lambda term: Parallel(Nil(), term), False, depth)
+
+    # a step is two bytes longer than the nodes around its prefix; a meeting has two prefixes and a node more
+    return {
+        "state": [*map(flat_case, (4, 5, 6)), *(to_the_right(size, 13) for size in TERM_BYTES)],
+        "step": [
+            *(meeting_case(256, size // 2 - 4, 1) for size in STEP_BYTES),
+            *(to_the_right(256, size - 3) for size in STEP_BYTES),
+        ],
+    }
 
 
 # Reports; each says whether the outputs are the same

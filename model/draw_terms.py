@@ -214,6 +214,21 @@ def crowding_terms(random: Random) -> Family:
     return bodies, start
 
 
+def workshop_terms(random: Random) -> Family:
+    """Machines side by side, two and two under a restriction, that go round for ever and meet each other."""
+    names = random.sample(range(0x01, 0x40), 6)
+    bodies: list[Term] = []
+    for number in range(6):
+        inner, outer = names[number // 2], random.choice(names[3:])
+        meets = inner if number % 2 else co(inner)
+        round_trip = chain([meets, outer], Call(number))
+        bodies.append(Sum(round_trip, Prefix(random.choice(names[3:]), Call(number))))
+    pairs = [Restriction(names[pair], Parallel(Call(2 * pair), Call(2 * pair + 1))) for pair in range(3)]
+    beside = [chain(random.sample(names[3:], 2), Nil()) for _ in range(4)]
+    start = Restriction(random.choice(names[:3]), Parallel(Parallel(pairs[0], beside[0]), Parallel(pairs[1], Parallel(beside[1], pairs[2]))))
+    return bodies, Parallel(Parallel(beside[2], start), beside[3])
+
+
 def growing_terms(random: Random) -> Family:
     """A definition that becomes a long term, beside terms that nearly fill a state."""
     tail = random.choice((20, 60, 100, 120, 180, 240, 253))

@@ -53,6 +53,7 @@ from draw_terms import (
     nested_terms,
     random_terms,
     term_of_a_marking,
+    workshop_terms,
 )
 from draw_terms import setup_frame as terms_setup
 from drawing import (
@@ -207,6 +208,7 @@ class Session:
         self.lines: list[bytes] = []
         # For each sheet a system in which it replays.
         self.homes: dict[int, Draws[Any]] = {}
+        self.starts: list[bytes] = []
         self.draws: Draws[Any] = TermDraws(self.random, Terms())
 
     # The state of the bench
@@ -637,6 +639,49 @@ class Session:
             self.send_setup(old)
         if self.random.random() < 0.5:
             self.send(REOPEN, number)
+
+    # Single calls, for measuring: no sheet is left released, and the sheets 0 and 2 have one start, 1 and 3 another
+
+    def begin(self, draws: Draws[Any]) -> None:
+        self.send_setup(draws.under(random_layers(self.random, draws.names())))
+        self.starts = [max((self.draws.lively_state() for _ in range(4)), key=len) for _ in range(2)]
+        for number in range(SHEETS):
+            self.begin_anew(number)
+
+    def begin_anew(self, number: int) -> None:
+        self.send(OPEN, number, self.starts[number % 2])
+
+    def add_one(self) -> None:
+        number = self.any_sheet()
+        tries = (self.possible_step(number) for _ in range(8))
+        step = next((step for step in tries if step is not None), None)
+        if step is None or len(self.sheet(number).steps) == MOST_STEPS:
+            self.begin_anew(number)
+        else:
+            self.send(ADD, number, step)
+
+    def look_inside(self) -> None:
+        number = self.any_sheet()
+        self.send(LOOK, number, self.random.randrange(len(self.sheet(number).steps) + 1))
+
+    def swap_one(self) -> None:
+        number = self.with_steps(SWAP, least=2)
+        self.send(SWAP, number, self.some_place(number))
+
+    def withdraw_one(self) -> None:
+        self.send(WITHDRAW, self.with_steps(WITHDRAW, least=1))
+
+    def join_other(self) -> None:
+        number = self.any_sheet()
+        self.send(JOIN, number, (number + 2) % SHEETS)
+
+    def show(self) -> None:
+        number = self.any_sheet()
+        for call in (RELEASE, PRINT, REOPEN):
+            self.send(call, number)
+
+    def open_again(self) -> None:
+        self.begin_anew(self.any_sheet())
 
     # Swaps and joins
 
@@ -1128,6 +1173,36 @@ def generate_session(seed: int, frames: int, wrong_moves: bool = True) -> Sessio
     return session
 
 
+# What generate_mixed draws, and how often.
+MIXED_MOVES: dict[Callable[[Session], None], int] = {
+    Session.add_one: 470,
+    Session.look_inside: 130,
+    Session.swap_one: 130,
+    Session.withdraw_one: 75,
+    Session.join_other: 50,
+    Session.show: 37,
+    Session.open_again: 33,
+}
+
+
+def generate_mixed(seed: int, frames: int) -> bytes:
+    """So many frames for measuring: over terms, and a net for a quarter of them, each under pairs and masked names; nearly all are accepted."""
+    session = Session(seed)
+    random = session.random
+    moves, weights = list(MIXED_MOVES), list(MIXED_MOVES.values())
+    systems: list[Callable[[], Draws[Any]]] = [
+        lambda: random_terms(random, workshop_terms),
+        lambda: random_terms(random, workshop_terms),
+        lambda: NetDraws(random, Net(tokens_net(random))),
+        lambda: random_terms(random, workshop_terms),
+    ]
+    for part, system in enumerate(systems, 1):
+        session.begin(system())
+        while len(session.lines) < frames * part // len(systems):
+            random.choices(moves, weights)[0](session)
+    return b"".join(line.upper() + b"\n" for line in session.lines[:frames])
+
+
 def generate(seed: int, frames: int) -> bytes:
     """A session of just so many frames; its last line may lack its line end."""
     session = generate_session(seed, frames)
@@ -1143,8 +1218,9 @@ def main() -> None:
     parser = argparse.ArgumentParser(description="Writes a random session to standard output.")
     parser.add_argument("seed", type=int, metavar="SEED")
     parser.add_argument("frames", type=int, metavar="FRAMES")
-    arguments = parser.parse_args()
-    sys.stdout.buffer.write(generate(arguments.seed, arguments.frames))
+    parser.add_argument("--mixed", action="store_true", help="nearly all frames are accepted, for measuring")
+    given = parser.parse_args()
+    sys.stdout.buffer.write((generate_mixed if given.mixed else generate)(given.seed, given.frames))
 
 
 if __name__ == "__main__":

@@ -29,7 +29,7 @@ use Rattle.frame.specs.Format.BadAt.{kind, many_pairs, bad_pair, many_names, bad
 use Rattle.frame.proofs.Calls.{within_told}
 use Rattle.frame.proofs.Layouts.{byte_of, no_items, laid, layout_built, SetupTells, setup_tells, no_layout, ends}
 use Rattle.frame.proofs.Places.{length-pair_bytes, at_first, definitions-append}
-use Rattle.frame.proofs.Ruled.{PairsTold, told_pairs, NamesTold, told_names, pairs_kept, names_kept, pairs_many, pairs_bad, names_many, names_bad}
+use Rattle.frame.proofs.Ruled.{PairsTold, told_pairs, NamesTold, told_names, pairs_kept, names_kept, pairs_answer-many, pairs_answer-bad, names_answer-many, names_answer-bad}
 
 -- first bytes
 
@@ -426,6 +426,8 @@ call_right byte rest h (Some calls.Reopen) is =
 call_right byte rest h (Some calls.Print) is = at_call byte PRINT rest (sheet_answer print rest) is (print_right rest)
 call_right byte rest h (Some calls.Look) is = at_call byte LOOK rest (sheet_byte_answer look rest) is (look_right rest)
 
+-- By the call, and for a setup by its kind and its layout: a layout tells of the bytes what they are
+-- the parts of, or what parts go on from them (`setup_tells`).
 bytes_right : (s : List ℕ) → AreBytes s → Right s (string_answer s)
 bytes_right [] h = nothing_right
 bytes_right (byte ∷ rest) h = call_right byte rest h (call_of byte) (call_says byte)
@@ -501,16 +503,16 @@ bad_told : (s : List ℕ) (place : ℕ) → BadAt s place → string_answer s �
 bad_told s place (kind {k = k} {s = t} no_terms no_net) = other_told k t no_terms no_net
 bad_told s place (many_pairs ps ns system is many) =
     at_setup s ps ns system (Err (BadSetup place)) is
-    (ruled ps ns system is.1 ∙ ap (behind_pairs (3 + length (pair_bytes ps)) ns system) (pairs_many ps many))
+    (ruled ps ns system is.1 ∙ ap (behind_pairs (3 + length (pair_bytes ps)) ns system) (pairs_answer-many ps many))
 bad_told s place (bad_pair ps ns system is enough bad) =
     at_setup s ps ns system (Err (BadSetup place)) is
-    (ruled ps ns system is.1 ∙ ap (behind_pairs (3 + length (pair_bytes ps)) ns system) (pairs_bad ps place enough bad))
+    (ruled ps ns system is.1 ∙ ap (behind_pairs (3 + length (pair_bytes ps)) ns system) (pairs_answer-bad ps place enough bad))
 bad_told s place (many_names ps ns system is p many) =
     at_setup s ps ns system (Err (BadSetup place)) is
-    (names_ruled ps ns system (Err (BadSetup (names_place ps))) is.1 p (names_many ps ns many))
+    (names_ruled ps ns system (Err (BadSetup (names_place ps))) is.1 p (names_answer-many ps ns many))
 bad_told s place (bad_name ps ns system is p enough bad) =
     at_setup s ps ns system (Err (BadSetup place)) is
-    (names_ruled ps ns system (Err (BadSetup place)) is.1 p (names_bad ps ns place enough bad))
+    (names_ruled ps ns system (Err (BadSetup place)) is.1 p (names_answer-bad ps ns place enough bad))
 bad_told s place (many_parts ps ns system is p n many) =
     at_setup s ps ns system (Err (BadSetup place)) is
     (system_ruled ps ns system is.1 p n
@@ -618,6 +620,11 @@ place_of_fault (Err (BadSetup place)) = place
 
 same_place : (j k : ℕ) → ◌≡◌ {A = Result FrameView FrameFault} (Err (Malformed j)) (Err (Malformed k)) → j ≡ k
 same_place j k e = ap place_of_fault e
+
+-- That an answer is right is `bytes_right`. That no other is right: the place of a malformed string
+-- ends its longest beginning, so there is one, and no frame has its bytes. A bad setup is of another
+-- kind, or it is laid out: then it is held to the rules as its counts say (`ruled`), and its pairs,
+-- or its names, are bad at one place, since all in front of that is in order.
 
 clash : (j k : ℕ) → ◌≡◌ {A = Result FrameView FrameFault} (Err (Malformed j)) (Err (BadSetup k)) → ⊥
 clash j k e = cc

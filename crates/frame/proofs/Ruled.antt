@@ -1,5 +1,5 @@
 -- The rules of a setup: what is taken is in order, and what is refused stands at the first byte that breaks one.
-use Rattle.std.proofs.Common.{◌≡◌, ℕ, ◌+◌, ◌*◌, ◌<◌, ◌≤◌, Bool, true, false, cond, not, ◌⊎◌, inl, inr, is_some, nat_eq, nat_lt, leb, List, [], ◌∷◌, ◌++◌, length, drop, Some, None, Ok, Err, Option, Result, sym, refl, ap, ◌∙◌, subst, arith}
+use Rattle.std.proofs.Common.{◌≡◌, ℕ, ◌+◌, ◌*◌, ◌<◌, ◌≤◌, Bool, true, false, cond, not, ◌&&◌, ◌⊎◌, inl, inr, is_some, nat_eq, nat_lt, leb, List, [], ◌∷◌, ◌++◌, length, drop, Some, None, Ok, Err, Option, Result, sym, refl, ap, ◌∙◌, subst, arith}
 use Rattle.std.proofs.lemmas.List.{append_assoc, append-nil, length-append}
 use Rattle.std.proofs.lemmas.List.Elements.{Contains-append_left, Contains-append_right, Contains-append_cases, Contains-push, Contains-push_cases}
 use Rattle.std.proofs.lemmas.Option.{none-some}
@@ -13,11 +13,11 @@ use Rattle.actions.specs.Action.{is_name}
 use Rattle.actions.specs.Pairs.{to_of, sound_pairs, beside_fault, pair_fault}
 use Rattle.actions.specs.Names.{all_names, name_fault}
 use Rattle.actions.proofs.Listed.{all_names_push}
-use Rattle.actions.proofs.Paired.{sound_from, sound_to, sound_once, sound_rest, sound_push, listed, room}
+use Rattle.actions.proofs.Paired.{sound_push, listed, room}
 use Rattle.frame.specs.declared.fault.FrameFault.{FrameFault}
 use Rattle.frame.specs.declared.fault.FrameFault.TheVariants.{Malformed, BadSetup}
 use Rattle.frame.specs.Frames.{PairsAllowed, NamesAllowed, pair_bytes, pair_limit, name_limit, pair_place, names_place, name_place}
-use Rattle.frame.specs.Rules.{fault_offset, more_pairs, pairs_answer, more_names, names_answer}
+use Rattle.frame.specs.Rules.{result_and_then, beside_answer, more_pairs, pairs_answer, unless_refused, more_names, names_answer}
 use Rattle.frame.specs.Format.{Replaces, PairsBadAt, NamesBadAt}
 use Rattle.frame.specs.Format.PairsBadAt.{from_no_name, from_twice, to_no_name}
 use Rattle.frame.specs.Format.NamesBadAt.{no_name}
@@ -83,12 +83,8 @@ pairs_say (p ∷ back) front sound few = cases (pairs_say back) (pair_fault fron
         → PairsSay (front ++ back) (more_pairs front (pair_place front) (pair_bytes back)))
         → (o : Option PairFault) → BesideSays front p o
         → PairsSay (front ++ p ∷ back)
-        (elim (elim o as
-        (λ _. Result (List Pair) FrameFault) [
-          | None ↦ Ok (front ++ p ∷ [])
-          | Some f ↦ Err
-              (BadSetup (pair_place front + fault_offset f))
-        ]) as (λ _. Result (List Pair) FrameFault) [ Ok qs ↦ more_pairs qs (pair_place front + 2) (pair_bytes back) | Err f ↦ Err f ])
+        (result_and_then (λ qs. more_pairs qs (pair_place front + 2) (pair_bytes back))
+        (beside_answer front p (pair_place front) o))
     cases say None (from, to, new) =
         let all : (front ++ p ∷ []) ++ back ≡ front ++ p ∷ back = append_assoc front (p ∷ []) back in
         let next : pair_place (front ++ p ∷ []) ≡ pair_place front + 2 = omega (arith, length-append front (p ∷ [])) in
@@ -154,11 +150,7 @@ names_say pairs (n ∷ back) front sound few = cases (names_say pairs back) (nam
         → NamesSay pairs (front ++ back) (more_names front (name_place pairs front) back))
         → (o : Option NameFault) → NameSays n o
         → NamesSay pairs (front ++ n ∷ back)
-        (elim o as (λ _. Result (List ℕ) FrameFault) [
-          | None ↦ more_names (front ++ n ∷ [])
-              (name_place pairs front + 1) back
-          | Some f ↦ Err (BadSetup (name_place pairs front))
-        ])
+        (unless_refused (name_place pairs front) (more_names (front ++ n ∷ []) (name_place pairs front + 1) back) o)
     cases say None name =
         let all : (front ++ n ∷ []) ++ back ≡ front ++ n ∷ back = append_assoc front (n ∷ []) back in
         let next : name_place pairs (front ++ n ∷ [])
@@ -198,22 +190,37 @@ not-true : (b : Bool) → not b ≡ true → b ≡ false
 not-true true h = cc
 not-true false h = refl
 
+-- what holds of the first of sound pairs, and of the others
+record FirstSound (p : Pair) (ps : List Pair) : Type 0 where
+  from : is_name p.from ≡ true
+  to : is_name p.to ≡ true
+  once : not (is_some (to_of ps p.from)) ≡ true
+  rest : sound_pairs ps ≡ true
+
+first_sound : (p : Pair) (ps : List Pair) → sound_pairs (p ∷ ps) ≡ true → FirstSound p ps
+first_sound p ps h =
+    let (names, more) =
+    and_parts (is_name p.from && is_name p.to) (not (is_some (to_of ps p.from)) && sound_pairs ps) h in
+    let (from, to) = and_parts (is_name p.from) (is_name p.to) names in
+    let (once, rest) = and_parts (not (is_some (to_of ps p.from))) (sound_pairs ps) more in
+    record { from = from; to = to; once = once; rest = rest }
+
 sound_in : (front : List Pair) (p : Pair) (back : List Pair) → sound_pairs (front ++ p ∷ back) ≡ true
     → (is_name p.from ≡ true) × (is_name p.to ≡ true) × (Replaces front p.from → ⊥)
-sound_in [] p back sound = (sound_from p back sound, sound_to p back sound, none)
+sound_in [] p back sound = ((first_sound p back sound).from, (first_sound p back sound).to, none)
   where
     none : Replaces [] p.from → ⊥
     none (q, (k, below, at), e) = absurd (omega arith)
 sound_in (q ∷ front) p back sound =
-    let (from, to, new) = sound_in front p back (sound_rest q (front ++ p ∷ back) sound) in
+    let (from, to, new) = sound_in front p back (first_sound q (front ++ p ∷ back) sound).rest in
     (from, to, none new)
   where
     found : to_of (front ++ p ∷ back) p.from ≡ Some p.to
-    found = listed (front ++ p ∷ back) p (sound_rest q (front ++ p ∷ back) sound)
+    found = listed (front ++ p ∷ back) p (first_sound q (front ++ p ∷ back) sound).rest
         (Contains-append_right front (p ∷ back) p (Contains-append_left (p ∷ []) back p (Contains-push [] p)))
 
     once : is_some (to_of (front ++ p ∷ back) q.from) ≡ false
-    once = not-true (is_some (to_of (front ++ p ∷ back) q.from)) (sound_once q (front ++ p ∷ back) sound)
+    once = not-true (is_some (to_of (front ++ p ∷ back) q.from)) (first_sound q (front ++ p ∷ back) sound).once
 
     first : (r : Pair) → q ≡ r → r.from ≡ p.from → ⊥
     first r same e =
@@ -371,8 +378,8 @@ pairs_once ps j k v w =
           (not_wrong w.front w.p before.between w.offset (subst (λ f. sound_pairs f ≡ true) before.is v.sound) w.wrong)
     ]
 
-pub pairs_many : (ps : List Pair) → pair_limit < length ps → pairs_answer (pair_bytes ps) ≡ Err (BadSetup 2)
-pairs_many ps many = cases (pairs_answer (pair_bytes ps)) (told_pairs ps)
+pub pairs_answer-many : (ps : List Pair) → pair_limit < length ps → pairs_answer (pair_bytes ps) ≡ Err (BadSetup 2)
+pairs_answer-many ps many = cases (pairs_answer (pair_bytes ps)) (told_pairs ps)
   where
     cases : (r : Result (List Pair) FrameFault) → PairsTold ps r → r ≡ Err (BadSetup 2)
     cases (Ok qs) (same, (few, sound)) = absurd (omega arith)
@@ -380,9 +387,9 @@ pairs_many ps many = cases (pairs_answer (pair_bytes ps)) (told_pairs ps)
     cases (Err (BadSetup k)) (inl (more, at)) = ap (λ j. Err (BadSetup j)) at
     cases (Err (BadSetup k)) (inr (few, bad)) = absurd (omega arith)
 
-pub pairs_bad : (ps : List Pair) (place : ℕ) → length ps ≤ pair_limit → PairsBadAt ps place
+pub pairs_answer-bad : (ps : List Pair) (place : ℕ) → length ps ≤ pair_limit → PairsBadAt ps place
     → pairs_answer (pair_bytes ps) ≡ Err (BadSetup place)
-pairs_bad ps place few bad = cases (pairs_answer (pair_bytes ps)) (told_pairs ps)
+pairs_answer-bad ps place few bad = cases (pairs_answer (pair_bytes ps)) (told_pairs ps)
   where
     cases : (r : Result (List Pair) FrameFault) → PairsTold ps r → r ≡ Err (BadSetup place)
     cases (Ok qs) (same, (enough, sound)) = absurd (pairs_sound ps place bad sound)
@@ -419,9 +426,9 @@ names_once pairs ns j k v w =
           (no_wrong w.front w.n before.between (subst (λ f. all_names f ≡ true) before.is v.sound) w.wrong)
     ]
 
-pub names_many : (pairs : List Pair) (ns : List ℕ) → name_limit < length ns
+pub names_answer-many : (pairs : List Pair) (ns : List ℕ) → name_limit < length ns
     → names_answer (names_place pairs) ns ≡ Err (BadSetup (names_place pairs))
-names_many pairs ns many = cases (names_answer (names_place pairs) ns) (told_names pairs ns)
+names_answer-many pairs ns many = cases (names_answer (names_place pairs) ns) (told_names pairs ns)
   where
     cases : (r : Result (List ℕ) FrameFault) → NamesTold pairs ns r → r ≡ Err (BadSetup (names_place pairs))
     cases (Ok ms) (same, (few, sound)) = absurd (omega arith)
@@ -429,9 +436,9 @@ names_many pairs ns many = cases (names_answer (names_place pairs) ns) (told_nam
     cases (Err (BadSetup k)) (inl (more, at)) = ap (λ j. Err (BadSetup j)) at
     cases (Err (BadSetup k)) (inr (few, bad)) = absurd (omega arith)
 
-pub names_bad : (pairs : List Pair) (ns : List ℕ) (place : ℕ) → length ns ≤ name_limit → NamesBadAt pairs ns place
+pub names_answer-bad : (pairs : List Pair) (ns : List ℕ) (place : ℕ) → length ns ≤ name_limit → NamesBadAt pairs ns place
     → names_answer (names_place pairs) ns ≡ Err (BadSetup place)
-names_bad pairs ns place few bad = cases (names_answer (names_place pairs) ns) (told_names pairs ns)
+names_answer-bad pairs ns place few bad = cases (names_answer (names_place pairs) ns) (told_names pairs ns)
   where
     cases : (r : Result (List ℕ) FrameFault) → NamesTold pairs ns r → r ≡ Err (BadSetup place)
     cases (Ok ms) (same, (enough, sound)) = absurd (names_sound pairs ns place bad sound)

@@ -9,7 +9,7 @@ use Rattle.actions.specs.Pairs.{pair_fault}
 use Rattle.actions.specs.Names.{name_fault, name_answer, names_after}
 use Rattle.frame.specs.declared.fault.FrameFault.{FrameFault}
 use Rattle.frame.specs.declared.fault.FrameFault.TheVariants.{BadSetup}
-use Rattle.frame.specs.Rules.{fault_offset, pair_answer, more_pairs, pairs_answer, more_names, names_answer}
+use Rattle.frame.specs.Rules.{result_and_then, beside_answer, pair_answer, more_pairs, pairs_answer, unless_refused, more_names, names_answer}
 
 -- pairs
 
@@ -24,13 +24,12 @@ pairs_end ps place (a ∷ b ∷ s) short = absurd (omega arith)
 
 pairs_step : (ps : List Pair) (place : ℕ) (s : List ℕ) (r : Result (List Pair) FrameFault) → 2 ≤ length s
     → r ≡ pair_answer ps (first_pair s) place
-    → more_pairs ps place s ≡ elim r [ Ok qs ↦ more_pairs qs (place + 2) (drop 2 s) | Err f ↦ Err f ]
+    → more_pairs ps place s ≡ result_and_then (λ qs. more_pairs qs (place + 2) (drop 2 s)) r
 unfolding more_pairs
 pairs_step ps place [] r long is = absurd (omega arith)
 pairs_step ps place (a ∷ []) r long is = absurd (omega arith)
-pairs_step ps place (a ∷ b ∷ s) r long is = ap
-    (λ (r : Result (List Pair) FrameFault). elim r as
-    (λ _. Result (List Pair) FrameFault) [ Ok qs ↦ more_pairs qs (place + 2) s | Err f ↦ Err f ]) (sym is)
+pairs_step ps place (a ∷ b ∷ s) r long is =
+    ap (result_and_then (λ qs. more_pairs qs (place + 2) s)) (sym is)
 
 pub behind_two : (s : List ℕ) → take (length s - 2) (drop 2 s) ≡ drop 2 s
 behind_two s = take_all (length s - 2) (drop 2 s) (omega (arith, length-drop 2 s))
@@ -58,20 +57,11 @@ names_end ns place (n ∷ s) none = absurd (omega arith)
 pub names_step : (ns : List ℕ) (place : ℕ) (s : List ℕ) (i : ℕ) (o : Option NameFault) → i < length s
     → name_fault ns (get_or s i 0) ≡ o
     → more_names ns place (drop i s)
-    ≡ elim o [
-      | None ↦ more_names (ns ++ get_or s i 0 ∷ []) (place + 1) (drop (i + 1) s)
-      | Some f ↦ Err
-          (BadSetup place)
-    ]
+    ≡ unless_refused place (more_names (ns ++ get_or s i 0 ∷ []) (place + 1) (drop (i + 1) s)) o
 unfolding more_names
 names_step ns place s i o there is =
     ap (more_names ns place) (drop_more s i 0 there)
-    ∙ ap (λ (o : Option NameFault). elim o as
-    (λ _. Result (List ℕ) FrameFault) [
-      | None ↦ more_names (ns ++ get_or s i 0 ∷ []) (place + 1)
-          (drop (i + 1) s)
-      | Some f ↦ Err (BadSetup place)
-    ]) is
+    ∙ ap (unless_refused place (more_names (ns ++ get_or s i 0 ∷ []) (place + 1) (drop (i + 1) s))) is
 
 pub names_more : (ns : List ℕ) (place : ℕ) (s : List ℕ) (i : ℕ) → i < length s
     → is_err (name_answer (name_fault ns (get_or s i 0))) ≡ false
@@ -107,12 +97,8 @@ pairs_grown (a ∷ b ∷ s) ps qs place e = cases (pairs_grown s) (pair_fault ps
   where
     cases : ((ps qs : List Pair) (place : ℕ) → more_pairs ps place s ≡ Ok qs → length qs ≡ length ps + length s / 2)
         → (o : Option PairFault)
-        → elim (elim o as
-        (λ _. Result (List Pair) FrameFault) [
-          | None ↦ Ok (ps ++ record { from = a; to = b } ∷ [])
-          | Some f ↦ Err
-              (BadSetup (place + fault_offset f))
-        ]) as (λ _. Result (List Pair) FrameFault) [ Ok qs ↦ more_pairs qs (place + 2) s | Err f ↦ Err f ] ≡ Ok qs
+        → result_and_then (λ qs. more_pairs qs (place + 2) s) (beside_answer ps (record { from = a; to = b }) place o)
+        ≡ Ok qs
         → length qs ≡ length ps + length (a ∷ b ∷ s) / 2
     cases grown None h = omega (
       arith,
@@ -136,11 +122,7 @@ names_grown (n ∷ s) ns ms place e = cases (names_grown s) (name_fault ns n) e
   where
     cases : ((ns ms : List ℕ) (place : ℕ) → more_names ns place s ≡ Ok ms → length ms ≡ length ns + length s)
         → (o : Option NameFault)
-        → elim o as (λ _. Result (List ℕ) FrameFault) [
-          | None ↦ more_names (ns ++ n ∷ []) (place + 1) s
-          | Some f ↦ Err
-              (BadSetup place)
-        ] ≡ Ok ms
+        → unless_refused place (more_names (ns ++ n ∷ []) (place + 1) s) o ≡ Ok ms
         → length ms ≡ length ns + length (n ∷ s)
     cases grown None h = omega (arith, grown (ns ++ n ∷ []) ms (place + 1) h, length-append ns (n ∷ []))
     cases grown (Some f) h = cc

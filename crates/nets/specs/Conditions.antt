@@ -1,5 +1,5 @@
 -- What a net asks of an event's action and its two sets of conditions, and which faults an event
--- has. Assumes nothing.
+-- has.
 use Rattle.std.specs.Prelude.{ℕ, ◌<◌, IsTrue, IsFalse}
 use Rattle.actions.specs.Action.{is_action}
 use Rattle.nets.specs.declared.event.Event.{Event}

@@ -1,4 +1,4 @@
--- What a net holds: its events, in their order. Assumes nothing.
+-- What a net holds: its events, in their order.
 use Rattle.std.specs.Prelude.{List}
 use Rattle.nets.specs.declared.event.Event.{Event}
 use Rattle.nets.specs.declared.net.Net.{Net}

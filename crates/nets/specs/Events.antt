@@ -1,4 +1,4 @@
--- Which events a net takes, and what is wrong with any other. Assumes nothing.
+-- Which events a net takes, and what is wrong with any other.
 use Rattle.std.specs.Prelude.{ℕ, ◌^◌, Bool, true, not, ◌&&◌, List, [], ◌∷◌, ◌++◌, length, is_some, Some, None, Ok, Err, Option, Result, ◌==◌, bit_and, nat_lt, if◌then◌else◌}
 use Rattle.actions.specs.Action.{is_action}
 use Rattle.nets.specs.declared.net.TheConstants.{EVENT_LIMIT}

@@ -1,5 +1,5 @@
 -- The firing rule, and which events are independent: each as a relation, and as it is computed on
--- the bits of markings. Assumes nothing.
+-- the bits of markings.
 use Rattle.std.specs.Prelude.{ℕ, ◌^◌, ◌<◌, Bool, ◌&&◌, ◌⊎◌, ◌↔◌, Some, None, Option, ◌==◌, bit_and, bit_or, bit_xor, if◌then◌else◌}
 use Rattle.nets.specs.declared.event.Event.{Event}
 use Rattle.nets.specs.Marking.{Holds}

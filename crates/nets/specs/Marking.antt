@@ -1,4 +1,4 @@
--- Markings: which conditions hold, as one number and as eight bytes. Assumes nothing.
+-- Markings: which conditions hold, as one number and as eight bytes.
 use Rattle.std.specs.Prelude.{◌≡◌, ℕ, ◌/◌, ◌%◌, ◌^◌, min, Bool, ◌&&◌, [], ◌∷◌, length, Ok, Err, Result, ◌==◌, if◌then◌else◌}
 use Rattle.std.proofs.Math.Pow.{are_bytes}
 use Rattle.std.specs.Int.Digits.{number_from_digits}

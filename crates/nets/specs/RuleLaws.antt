@@ -1,5 +1,4 @@
 -- What the meaning of a net owes the rules; each holds of the events of every net that exists.
--- Assumes nothing.
 use Rattle.std.specs.Prelude.{◌≡◌, ℕ, ◌↔◌, List, Some, Ok, Err, IsTrue}
 use Rattle.steps.specs.Meaning.{Str}
 use Rattle.steps.specs.Beginning.{LongestBeginning}

@@ -1,5 +1,4 @@
--- The rules by which a net moves, and which of its steps are independent, said of strings. Assumes
--- nothing.
+-- The rules by which a net moves, and which of its steps are independent, said of strings.
 use Rattle.std.specs.Prelude.{◌≡◌, ℕ, ◌-◌, ◌/◌, ◌%◌, ◌^◌, ◌<◌, ◌↔◌, List, [], ◌∷◌, length, Some, All, slice_get, slice_index}
 use Rattle.steps.specs.Meaning.{Str}
 use Rattle.steps.specs.Beginning.{LongestBeginning}

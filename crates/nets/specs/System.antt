@@ -1,5 +1,4 @@
--- A net as a step system: markings are its states, and the numbers of its events its steps. Assumes
--- nothing.
+-- A net as a step system: markings are its states, and the numbers of its events its steps.
 use Rattle.std.specs.Prelude.{ℕ, false, List, [], ◌∷◌, is_ok, Some, None, Ok, Err, Option, Result, if◌then◌else◌}
 use Rattle.std.specs.List.{slice_get}
 use Rattle.std.specs.Result.{result_err}

@@ -26,8 +26,8 @@ impl StepSystem for Net {
 
     ghost lawful = { λ n. net_laws (events_of n) n.sound };
 
-    // Any eight bytes are a state. Of others it tells where the longest beginning of one ends: behind
-    // the last byte, or behind the eighth.
+    // Any eight bytes are a state. Of others it tells where the longest beginning of one ends:
+    // behind the last byte, or behind the eighth.
     fn state(&self, state: &[u8]) -> Result<(), MaskFault>
         ensures answer { result ≡ state_answer (net_transitions (events_of self.now)) state.now }
         ensures markings { IsOk result ↔ IsMarking state.now }
