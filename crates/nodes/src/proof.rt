@@ -6,12 +6,14 @@ ghost use Rattle.ccs.specs.declared.due.Due.TheVariants.{Node};
 ghost use Rattle.nodes.specs.Whole.{at_most_one_more};
 ghost use Rattle.nodes.specs.Grammars.{fits_of, proof_size};
 ghost use Rattle.nodes.specs.Nodes.{ProofNode, Fills, ProofsRead, node_of_proof, proof_view};
+ghost use Rattle.nodes.specs.Nodes.{sides_of, left_branch_of, right_branch_of, under_of};
+ghost use Rattle.byte_strings.specs.Lent.{part_view, sides_view};
 ghost use Rattle.nodes.specs.Shapes.{proof_shape, on_first};
 
 use crate::scan::{Grammar, Size, Wanted, fault, split};
 use actions::action::{is_action, is_name};
 use ccs::due::Due;
-use ccs::node_bytes::{ACT, LEFT, RIGHT, BOTH, CHOOSE_LEFT, CHOOSE_RIGHT, UNDER};
+use ccs::node_bytes::{ACT, BOTH, CHOOSE_LEFT, CHOOSE_RIGHT, LEFT, RIGHT, UNDER};
 
 // A node of a proof, with its parts as they stand in the string.
 #[derive(Clone, Copy)]
@@ -98,6 +100,50 @@ impl Proof<'_> {
             return unreachable();
         };
         node
+    }
+}
+
+impl<'a> Proof<'a> {
+    // The parts on the left and on the right of a parallel term; none where it is a step of no parallel term.
+    pub fn sides(self) -> Option<(Option<&'a [u8]>, Option<&'a [u8]>)>
+        ensures { sides_view result ≡ sides_of (node_of_proof self.entry) }
+    {
+        match self {
+            Proof::Left(part) => Some((Some(part), None)),
+            Proof::Right(part) => Some((None, Some(part))),
+            Proof::Both(left, right) => Some((Some(left), Some(right))),
+            Proof::Act(_) | Proof::ChooseLeft(_) | Proof::ChooseRight(_) | Proof::Under(..) => None,
+        }
+    }
+
+    // The part in the left branch of a choice.
+    pub fn left_branch(self) -> Option<&'a [u8]>
+        ensures { part_view result ≡ left_branch_of (node_of_proof self.entry) }
+    {
+        match self {
+            Proof::ChooseLeft(part) => Some(part),
+            _ => None,
+        }
+    }
+
+    // The part in the right branch of a choice.
+    pub fn right_branch(self) -> Option<&'a [u8]>
+        ensures { part_view result ≡ right_branch_of (node_of_proof self.entry) }
+    {
+        match self {
+            Proof::ChooseRight(part) => Some(part),
+            _ => None,
+        }
+    }
+
+    // The part under the restriction of the name.
+    pub fn under(self, name: u8) -> Option<&'a [u8]>
+        ensures { part_view result ≡ under_of name (node_of_proof self.entry) }
+    {
+        match self {
+            Proof::Under(restricted, part) if name == restricted => Some(part),
+            _ => None,
+        }
     }
 }
 

@@ -6,7 +6,8 @@ ghost use Rattle.nodes.specs.Whole.{at_most_one_more, done, whole, start, whole_
 
 use ccs::due::Due;
 
-// What the next byte has to be, and how many terms or proofs are due; behind a node's first byte, one more.
+// What the next byte has to be, and how many terms or proofs are due; behind a node's first byte,
+// one more.
 #[derive(Clone, Copy)]
 pub struct Wanted {
     pub due: Due,
@@ -14,6 +15,7 @@ pub struct Wanted {
 }
 
 impl Wanted {
+    // So many terms or proofs are due, and this next.
     pub(crate) fn new(due: Due, count: usize) -> Wanted
         ensures { result ≡ record { due = due; count = count } }
     {
@@ -95,7 +97,8 @@ pub(crate) fn split<'a, G: Grammar>(grammar: &G, bytes: &'a [u8]) -> (&'a [u8], 
     bytes.split_at(length(grammar, bytes))
 }
 
-// The length of the first term or proof of a string that begins with one. It was checked, so its nodes are counted alone.
+// The length of the first term or proof of a string that begins with one.
+// The string was checked, so no more than nodes are counted.
 fn length<G: Grammar>(grammar: &G, bytes: &[u8]) -> usize
     requires { IsTrue (is_ok (whole (G.fits grammar.now) start bytes.now)) }
     ensures value { whole (G.fits grammar.now) start bytes.now ≡ Ok result }

@@ -6,12 +6,14 @@ ghost use Rattle.ccs.specs.declared.due.Due.TheVariants.{Node};
 ghost use Rattle.nodes.specs.Whole.{at_most_one_more};
 ghost use Rattle.nodes.specs.Grammars.{fits_of, term_size};
 ghost use Rattle.nodes.specs.Nodes.{TermNode, TermsRead, node_of_term, term_view};
+ghost use Rattle.nodes.specs.Nodes.{rest_of, par_of, sum_of, restricted_of, called_of};
+ghost use Rattle.byte_strings.specs.Lent.{part_view, pair_view};
 ghost use Rattle.nodes.specs.Shapes.{term_shape, on_first};
 
 use crate::scan::{Grammar, Size, Wanted, fault, split};
 use actions::action::{is_action, is_name};
 use ccs::due::Due;
-use ccs::node_bytes::{NIL, PREFIX, PARALLEL, SUM, RESTRICTION, CALL};
+use ccs::node_bytes::{CALL, NIL, PARALLEL, PREFIX, RESTRICTION, SUM};
 
 // A node of a term, with its parts as they stand in the string.
 #[derive(Clone, Copy)]
@@ -115,14 +117,16 @@ impl Terms {
 }
 
 impl Term<'_> {
-    // The first byte that fits no term over so many definitions, of a string that is to be one; none where it is one.
+    // The first byte that fits no term over so many definitions, of a string that is to be one;
+    // none where it is one.
     pub fn fault(definitions: u8, bytes: &[u8]) -> Option<usize>
         ensures { result ≡ result_err (read_term definitions bytes.now) }
     {
         fault(&Terms { definitions }, bytes)
     }
 
-    // The first node of a string that is a term over so many definitions. Its parts are terms over them, so nothing is read again.
+    // The first node of a string that is a term over so many definitions.
+    // Its parts are terms over them, so nothing is read again.
     pub fn of(definitions: u8, bytes: &[u8]) -> Term<'_>
         requires { IsTrue (is_ok (read_term definitions bytes.now)) }
         ensures node { TermNode definitions (Some (node_of_term result)) (read_term definitions bytes.now) }
@@ -133,5 +137,57 @@ impl Term<'_> {
             return unreachable();
         };
         node
+    }
+}
+
+impl<'a> Term<'a> {
+    // The rest behind the action.
+    pub fn rest(self, action: u8) -> Option<&'a [u8]>
+        ensures { part_view result ≡ rest_of action (node_of_term self.entry) }
+    {
+        match self {
+            Term::Prefix(first, part) if first == action => Some(part),
+            _ => None,
+        }
+    }
+
+    // The sides of a parallel term.
+    pub fn sides(self) -> Option<(&'a [u8], &'a [u8])>
+        ensures { pair_view result ≡ par_of (node_of_term self.entry) }
+    {
+        match self {
+            Term::Par(left, right) => Some((left, right)),
+            _ => None,
+        }
+    }
+
+    // The branches of a choice.
+    pub fn branches(self) -> Option<(&'a [u8], &'a [u8])>
+        ensures { pair_view result ≡ sum_of (node_of_term self.entry) }
+    {
+        match self {
+            Term::Sum(left, right) => Some((left, right)),
+            _ => None,
+        }
+    }
+
+    // The term under the restriction of the name.
+    pub fn restricted(self, name: u8) -> Option<&'a [u8]>
+        ensures { part_view result ≡ restricted_of name (node_of_term self.entry) }
+    {
+        match self {
+            Term::Restrict(kept, part) if kept == name => Some(part),
+            _ => None,
+        }
+    }
+
+    // The number of the definition that is called.
+    pub fn called(self) -> Option<u8>
+        ensures { result ≡ called_of (node_of_term self.entry) }
+    {
+        match self {
+            Term::Call(definition) => Some(definition),
+            _ => None,
+        }
     }
 }

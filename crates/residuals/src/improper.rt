@@ -8,8 +8,8 @@ use crate::label::shown;
 use actions::action::{complementary, name_of};
 use nodes::proof::Proof;
 
-// The first improper node of a proof, by the place of its first byte: two sides that show no name and its co-name, or a restriction of the name that
-// is shown.
+// The first improper node of a proof, by the place of its first byte: two sides that show no name and its
+// co-name, or a restriction of the name that is shown.
 pub fn improper(step: &[u8]) -> Option<usize>
     requires { IsTrue (is_ok (read_proof step.now)) }
     ensures place { result ≡ improper_of (read_proof step.now) }

@@ -17,8 +17,8 @@ pub fn label(step: &[u8]) -> Label
     }
 }
 
-// What a string shows that begins with a proof: its nodes are gone through as far as the prefix, and no more of it is read.
-// Not by `Proof::read`, which reads the string to its end at each node.
+// What a string shows that begins with a proof: its nodes are gone through as far as the prefix.
+// Not by `Proof::of`, which would split a handshake for nothing.
 #[tactic(auto, unfolding(crate::specs::Steps::shown_behind))]
 pub(crate) fn shown(step: &[u8]) -> u8
     ensures { result ≡ shown step.now }

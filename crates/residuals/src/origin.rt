@@ -59,7 +59,8 @@ pub fn origin(x: &[u8], z: &[u8], sink: &mut Sink) -> Option<()>
 fn before(done: Option<&[u8]>, part: &[u8], sink: &mut Sink) -> Option<()>
     requires done { PartRead (part_view done) }
     requires part { IsTrue (is_ok (read_proof part.now)) }
-    ensures { outcome result sink.new ≡ onto sink.old (beside_of (λ x. origin_of x part.now) part.now (part_view done.entry)) }
+    ensures { outcome result sink.new
+        ≡ onto sink.old (beside_of (λ x. origin_of x part.now) part.now (part_view done.entry)) }
 {
     match done {
         Some(moved) => origin(moved, part, sink),

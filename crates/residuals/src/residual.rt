@@ -53,7 +53,8 @@ pub fn residual(x: &[u8], y: &[u8], sink: &mut Sink) -> Option<()>
 fn beside(part: &[u8], other: Option<&[u8]>, sink: &mut Sink) -> Option<()>
     requires part { IsTrue (is_ok (read_proof part.now)) }
     requires other { PartRead (part_view other) }
-    ensures { outcome result sink.new ≡ onto sink.old (beside_of (residual_of part.now) part.now (part_view other.entry)) }
+    ensures { outcome result sink.new
+        ≡ onto sink.old (beside_of (residual_of part.now) part.now (part_view other.entry)) }
 {
     match other {
         Some(moved) => residual(part, moved, sink),

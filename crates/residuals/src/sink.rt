@@ -1,4 +1,4 @@
-// Bytes written one behind the other, of which as many as a state may have are kept and all are counted.
+// Bytes written one behind the other: as many as a state may have are kept, and all are counted.
 ghost use Rattle.std.specs.Prelude.{◌≡◌, length};
 ghost use Rattle.byte_strings.specs.Buffer.{count, buffer_after};
 ghost use Rattle.residuals.specs.Sink.{empty, with_byte, poured, put_answer};
@@ -7,7 +7,8 @@ use byte_strings::buffer;
 use byte_strings::held::Held;
 use steps::STATE_LIMIT;
 
-// What is written here may turn out longer than it may be, and then its length is told: so it is counted, and kept as far as it may be asked for.
+// What is written here may turn out longer than it may be, and then its length is told: so it is counted,
+// and kept as far as it may be asked for.
 #[derive(Clone, Copy)]
 pub struct Sink {
     kept: Held<STATE_LIMIT>,
@@ -50,8 +51,9 @@ impl Sink {
         self.kept.items()
     }
 
-    // Writes all over the front of a buffer and answers the length; the length that is needed, and the buffer as it was, where that is
-    // more than is kept or than the buffer has.
+    // Writes all over the front of a buffer and answers the length;
+    // the length that is needed, and the buffer as it was, where that is more than is kept or than the
+    // buffer has.
     pub fn put(&self, out: &mut [u8]) -> Result<usize, u16>
         ensures answer { result ≡ count (put_answer self.now (length out.old)) }
         ensures buffer { out.new ≡ buffer_after (put_answer self.now (length out.old)) out.old }

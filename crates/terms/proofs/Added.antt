@@ -6,8 +6,7 @@ use Rattle.std.proofs.lemmas.Bool.{cond-true, lt-ltb}
 use Rattle.steps.specs.Meaning.{Str}
 use Rattle.ccs.proofs.Cases.{both_of}
 use Rattle.terms.specs.declared.terms.contents.BodyFault.{BodyFault}
-use Rattle.terms.specs.declared.terms.contents.BodyFault.TheVariants.{NoBody}
-use Rattle.terms.specs.Bodies.{body_fault, sound_bodies_of, add_fault, bodies_after}
+use Rattle.terms.specs.Bodies.{body_fault, sound_bodies_of, no_body, add_fault, with_body, bodies_after}
 
 -- what fits is the string itself
 pub held_is : (h s : Str) (c : Bool) → Some h ≡ cond c (Some s) None → h ≡ s
@@ -31,5 +30,5 @@ module _ (n : ℕ) (ss : List Str) (h s : Str) (same : h ≡ s) (few : length ss
 
   pub stored_after : None ≡ body_fault n s → take 16 (ss ++ h ∷ []) ≡ bodies_after n ss s
   stored_after f =
-      let fault : add_fault n ss s ≡ None = cond-true (nat_lt (length ss) n) _ _ (lt-ltb (length ss) n few) ∙ ap (λ o. elim o as (λ _. Option BodyFault) [ None ↦ None | Some k ↦ Some (NoBody k) ]) (sym f) in
-      stored ∙ sym (ap (λ o. elim o as (λ _. List Str) [ None ↦ ss ++ s ∷ [] | Some f ↦ ss ]) fault)
+      let fault : add_fault n ss s ≡ None = cond-true (nat_lt (length ss) n) _ _ (lt-ltb (length ss) n few) ∙ ap no_body (sym f) in
+      stored ∙ sym (ap (λ o. with_body o ss s) fault)

@@ -1,5 +1,5 @@
 -- What the questions to terms answer. Assumes nothing.
-use Rattle.std.proofs.Common.{◌≡◌, ℕ, min, ◌≤◌, Bool, true, false, cond, List, length, take, Some, None, Ok, Err, Option, Result, is_some, nat_le, sym, refl, ap, ap₂, ◌∙◌, arith}
+use Rattle.std.proofs.Common.{◌≡◌, ℕ, min, ◌≤◌, Bool, true, false, cond, List, length, take, Some, None, Ok, Err, Option, Result, is_ok, is_some, nat_le, sym, refl, ap, ap₂, ◌∙◌, arith}
 use Rattle.std.specs.Result.{result_err}
 use Rattle.std.proofs.lemmas.List.{take_all}
 use Rattle.std.proofs.lemmas.Bool.{cond-true, cond-false, le-leb, lt-leb, leb-true, leb-false}
@@ -43,6 +43,21 @@ checked_step x e = go (read_proof x) (unrefused NoStep _ e)
 
     go : (r : Result Proof ℕ) → or_else (past 64 x (result_err r)) (improper_of r) ≡ None → proper_only r ≡ r
     go (Ok t) e = kept t (past 64 x None) (improper t) e
+    go (Err k) e = absurd (cc e)
+
+-- it is a proof, and a state that was checked is a term
+pub read_checked : (x : Str) → Ok tt ≡ step_checked x → is_ok (read_proof x) ≡ true
+read_checked x e = go (read_proof x) (unrefused NoStep _ e)
+  where
+    go : (r : Result Proof ℕ) → or_else (past 64 x (result_err r)) (improper_of r) ≡ None → is_ok r ≡ true
+    go (Ok t) e = refl
+    go (Err k) e = absurd (cc e)
+
+pub state_read_checked : (ds : List Term) (s : Str) → Ok tt ≡ state_checked ds s → is_ok (read_term (length ds) s) ≡ true
+state_read_checked ds s e = go (read_term (length ds) s) (unrefused NoState _ e)
+  where
+    go : (r : Result Term ℕ) → past 256 s (result_err r) ≡ None → is_ok r ≡ true
+    go (Ok p) e = refl
     go (Err k) e = absurd (cc e)
 
 pub left_is : (x y : Str) → Ok tt ≡ step_checked x → Ok tt ≡ step_checked y → terms_independence.left x y ≡ residual_of x y

@@ -18,7 +18,7 @@ use Rattle.nodes.specs.Nodes.ProofNode.{act_node, left_node, right_node, both_no
 use Rattle.residuals.specs.declared.sink.Sink.{Sink}
 use Rattle.residuals.specs.Sink.{with_byte, poured}
 use Rattle.residuals.proofs.Poured.{poured_on, byte_before}
-use Rattle.terms.specs.Follow.{unfolded, followed_by, followed, onto_term, further}
+use Rattle.terms.specs.Follow.{unfolded_in, unfolded, followed_by, followed, onto_term, further}
 
 -- and then more
 abbrev pub then_on : Result Sink ℕ → (Sink → Result Sink ℕ) → Result Sink ℕ
@@ -173,7 +173,7 @@ module _ (ds : List Term) where
         no_node : {m : NodeOfProof} {j : ℕ} → ProofNode (Some m) (Err j) → ⊥
         no_node h = elim h [ ]
 
-        go : (r : Result Term ℕ) (z : Result Proof ℕ) (m : Option NodeOfProof) → TermNode (length ds) (Some o) (elim r as (λ _. Result Term ℕ) [ Ok p ↦ Ok (unfold_call (body_of ds) p) | Err k ↦ Err k ]) → ProofNode m z
+        go : (r : Result Term ℕ) (z : Result Proof ℕ) (m : Option NodeOfProof) → TermNode (length ds) (Some o) (unfolded_in ds r) → ProofNode m z
             → follow_onto (Some o) m k ≡ onto_term k (followed_by ds r z)
         go (Ok p) (Ok t) (Some m) h g = from_nodes h g k ∙ ap (onto_term k) (from_unfolded p t)
         go (Ok p) (Ok t) None h g = absurd (no_step g)

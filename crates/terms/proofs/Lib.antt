@@ -3,3 +3,4 @@ pub mod Unfolding
 pub mod Added
 pub mod Answered
 pub mod Bodies
+pub mod Rules

@@ -13,10 +13,10 @@ use Rattle.nodes.specs.Nodes.NodeOfTerm.{Nil}
 use Rattle.nodes.specs.Nodes.TermNode.{nil_node, prefix_node, par_node, sum_node, restrict_node, call_node}
 use Rattle.terms.specs.Bodies.{body_fault, sound_bodies_of, body_in, terms_in}
 use Rattle.terms.specs.Sound.{length_terms, is_body, body_is}
-use Rattle.terms.specs.Follow.{unfolded}
+use Rattle.terms.specs.Follow.{unfolded_in, unfolded}
 
 abbrev unfold_in : List Term → Result Term ℕ → Result Term ℕ
-unfold_in ds r = elim r [ Ok p ↦ Ok (unfold_call (body_of ds) p) | Err k ↦ Err k ]
+unfold_in ds r = unfolded_in ds r
 
 idle : (k d : ℕ) → slice_index_or (replicate k nil) d nil ≡ nil
 idle zero d = refl

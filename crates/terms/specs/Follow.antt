@@ -10,8 +10,12 @@ use Rattle.residuals.specs.declared.sink.Sink.{Sink}
 use Rattle.residuals.specs.Sink.{poured}
 
 -- a term that is no call: its own self, or the body that it calls
+abbrev pub unfolded_in : List Term → Result Term ℕ → Result Term ℕ
+unfolded_in ds (Ok p) = Ok (unfold_call (body_of ds) p)
+unfolded_in ds (Err k) = Err k
+
 abbrev pub unfolded : List Term → Str → Result Term ℕ
-unfolded ds a = elim (read_term (length ds) a) [ Ok p ↦ Ok (unfold_call (body_of ds) p) | Err k ↦ Err k ]
+unfolded ds a = unfolded_in ds (read_term (length ds) a)
 
 -- the term that follows, or the place of the first node that does not fit; place 0 where one of the strings is none
 abbrev pub followed_by : List Term → Result Term ℕ → Result Proof ℕ → Result Term ℕ

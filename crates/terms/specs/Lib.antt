@@ -4,3 +4,4 @@ pub mod Contents
 pub mod Sound
 pub mod Follow
 pub mod Answers
+pub mod Rules

@@ -14,7 +14,7 @@ use Rattle.ccs.specs.Follow.{plain}
 use Rattle.ccs.specs.System.{past, sound_bodies}
 use Rattle.ccs.proofs.Cases.{both_of}
 use Rattle.ccs.proofs.TermReading.{read_is_term}
-use Rattle.terms.specs.Bodies.{body_limit, body_fault, sound_bodies_of, body_in, terms_in}
+use Rattle.terms.specs.Bodies.{body_limit, body_fault, sound_bodies_of, term_or_nil, body_in, terms_in}
 
 pub length_terms : (n : ℕ) (ss : List Str) → length ss ≤ n → length (terms_in n ss) ≡ n
 length_terms n ss few = length-append (map (body_in n) ss) (replicate (n - length ss) nil) ∙ omega (arith, length-map ss (body_in n), length-replicate (n - length ss) nil, few)
@@ -46,7 +46,7 @@ is_body n (b ∷ s) e = by_byte (nat_eq b 0x05) refl e
     by_byte false f h = by_reading f (read_term n (b ∷ s)) refl h
 
 pub body_is : (n : ℕ) (s : Str) (p : Term) → read_term n s ≡ Ok p → body_in n s ≡ p
-body_is n s p e = ap (λ r. elim r as (λ _. Term) [ Ok p ↦ p | Err k ↦ nil ]) e
+body_is n s p e = ap term_or_nil e
 
 idle_sound : (n k : ℕ) → IsTrue (sound_bodies n (replicate k nil))
 unfolding sound_bodies sound_term

@@ -11,8 +11,8 @@ use nodes::proof::Proof;
 use residuals::sink::Sink;
 
 impl Terms {
-    // Writes the term that follows the term by the proof behind what was written; else the place of the proof's first node that does not
-    // fit the term that it comes to: what the sink then holds is not told.
+    // Writes the term that follows the term by the proof behind what was written; else the place of the
+    // proof's first node that does not fit the term that it comes to: what the sink then holds is not told.
     pub(crate) fn follow(&self, term: &[u8], step: &[u8], sink: &mut Sink) -> Result<(), usize>
         requires term { IsTrue (is_ok (read_term self.now.count term.now)) }
         requires step { IsTrue (is_ok (read_proof step.now)) }

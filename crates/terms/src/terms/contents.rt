@@ -11,11 +11,12 @@ ghost use Rattle.terms.specs.Contents.{count_of, bodies_of, terms_of};
 ghost use Rattle.terms.specs.Follow.{unfolded};
 
 use crate::place::past;
-use crate::terms::{DEFINITION_LIMIT, Terms};
+use crate::terms::{BODY_LIMIT, DEFINITION_LIMIT, Terms};
 use byte_strings::held::Held;
 use byte_strings::list::FixedList;
 use ccs::node_bytes::CALL;
 use nodes::term::Term;
+use steps::STATE_LIMIT;
 use steps::fault::SystemFault;
 
 // Why a body is refused.
@@ -77,7 +78,7 @@ impl Terms {
     pub(crate) fn check_state(&self, state: &[u8]) -> Result<(), SystemFault>
         ensures { result ≡ state_checked (terms_of self.now) state.now }
     {
-        match past(256, state, Term::fault(self.count, state)) {
+        match past(STATE_LIMIT, state, Term::fault(self.count, state)) {
             Some(place) => Err(SystemFault::NoState(place)),
             None => Ok(()),
         }
@@ -116,5 +117,5 @@ fn body_fault(count: u8, body: &[u8]) -> Option<u16>
     if let [CALL, ..] = body {
         return Some(0);
     }
-    past(255, body, Term::fault(count, body))
+    past(BODY_LIMIT, body, Term::fault(count, body))
 }
