@@ -2,4 +2,4 @@ use Rattle.std.proofs.Common.{◌≡◌, length}
 use Rattle.sheetbench.proofs.run.Given as goal
 
 abbrev pub invariant-loop : goal.invariant-loop
-invariant-loop l = (length l.chunk ≡ 32768) × (length l.out ≡ 32768)
+invariant-loop g l = (length l.chunk ≡ 32768) × (length l.out ≡ 32768)
