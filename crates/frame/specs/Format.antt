@@ -12,11 +12,8 @@ use Rattle.frame.specs.declared.fault.FrameFault.TheVariants.{Malformed, BadSetu
 use Rattle.frame.specs.Frames.{SystemView, FrameView, pair_bytes, count_of, system_bytes, bytes_of, LaidOut, PairsAllowed, NamesAllowed, Many, Accepted, Begins, sound_pairs, all_names, pair_limit, name_limit, pair_place, names_place, name_place, count_place, body_place, event_place}
 use Rattle.frame.specs.Frames.SystemView.{terms, net}
 use Rattle.frame.specs.Frames.FrameView.{setup}
+pub use Rattle.nets.specs.Rules.{AreBytes}
 use Rattle.frame.specs.Reading.{frame_answer}
-
--- A frame is a string of bytes.
-abbrev pub AreBytes : List ℕ → Type 0
-AreBytes s = All (λ b. b < 256) s
 
 -- A string is read as a frame exactly where it is the bytes of that frame, and the frame is
 -- accepted.

@@ -1,10 +1,10 @@
--- Terms built one body at a time. Assumes nothing.
+-- Terms built one body at a time.
 use Rattle.std.proofs.Common.{◌≡◌, ℕ, ◌+◌, ◌<◌, nat_lt, List, [], ◌∷◌, ◌++◌, length, Some, None, Ok, Err, Option, Result, sym, refl, ap, ◌∙◌, arith, length-append, append-nil}
 use Rattle.std.proofs.lemmas.Bool.{cond-true, lt-ltb}
 use Rattle.byte_strings.specs.Buffer.{Str}
 use Rattle.terms.specs.declared.body.BodyFault.{BodyFault}
 use Rattle.terms.specs.declared.body.BodyFault.TheVariants.{NoBody}
-use Rattle.terms.specs.Bodies.{body_fault, add_fault, add_answer, bodies_after, place_of}
+use Rattle.terms.specs.Bodies.{body_fault, no_body, add_fault, answer_if, add_answer, with_body, bodies_after, place_of}
 use Rattle.frame.specs.Frames.{definitions}
 use Rattle.frame.proofs.Places.{definitions-append}
 use Rattle.frame.specs.declared.fault.FrameFault.{FrameFault}
@@ -44,32 +44,22 @@ module _ (start n : ℕ) (front left : List Str) (r : Result (List Str) FrameFau
 
 -- what giving a body tells, where one is called for
 module _ (n : ℕ) (ss : List Str) (s : Str) (room : length ss < n) where
-  fault_of : Option ℕ → Option BodyFault
-  fault_of o = elim o [ None ↦ None | Some k ↦ Some (NoBody k) ]
-
-  by_body : add_fault n ss s ≡ fault_of (body_fault n s)
-  unfolding fault_of
+  by_body : add_fault n ss s ≡ no_body (body_fault n s)
   by_body = cond-true (nat_lt (length ss) n) _ _ (lt-ltb (length ss) n room)
 
-  told_by : Option BodyFault → Result (Unit {0}) BodyFault
-  told_by o = elim o [ None ↦ Ok tt | Some f ↦ Err f ]
-
   pub taken_fault : Ok tt ≡ add_answer n ss s → body_fault n s ≡ None
-  unfolding fault_of told_by
-  taken_fault e = go (body_fault n s) (e ∙ ap told_by by_body)
+  taken_fault e = go (body_fault n s) (e ∙ ap answer_if by_body)
     where
-      go : (o : Option ℕ) → Ok tt ≡ told_by (fault_of o) → o ≡ None
+      go : (o : Option ℕ) → Ok tt ≡ answer_if (no_body o) → o ≡ None
       go None e = refl
       go (Some k) e = absurd (cc e)
 
   pub taken_after : Ok tt ≡ add_answer n ss s → bodies_after n ss s ≡ ss ++ s ∷ []
-  unfolding fault_of told_by
-  taken_after e = ap (λ o. elim o as (λ _. List Str) [ None ↦ ss ++ s ∷ [] | Some f ↦ ss ]) (by_body ∙ ap fault_of (taken_fault e))
+  taken_after e = ap (λ o. with_body o ss s) (by_body ∙ ap no_body (taken_fault e))
 
   pub refused_fault : (f : BodyFault) → Err f ≡ add_answer n ss s → body_fault n s ≡ Some (place_of f)
-  unfolding fault_of told_by
-  refused_fault f e = go (body_fault n s) (e ∙ ap told_by by_body)
+  refused_fault f e = go (body_fault n s) (e ∙ ap answer_if by_body)
     where
-      go : (o : Option ℕ) → Err f ≡ told_by (fault_of o) → o ≡ Some (place_of f)
+      go : (o : Option ℕ) → Err f ≡ answer_if (no_body o) → o ≡ Some (place_of f)
       go None e = absurd (cc e)
       go (Some k) e = let same : f ≡ NoBody k = cc e in ap (λ f. Some (place_of f)) (sym same)

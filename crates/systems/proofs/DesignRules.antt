@@ -6,6 +6,7 @@ use Rattle.steps.specs.Meaning.{Str}
 use Rattle.steps.specs.Beginning.{LongestBeginning}
 use Rattle.systems.specs.Design.{Design, transitions_of, independence_of}
 use Rattle.systems.specs.Rules.{Moves, Does, LeftOf, WithinState, WithinStep, NoStateAt, NoStepAt, StuckAt}
+use Rattle.nets.specs.Rules.{AreBytes}
 
 pub record FollowsRules (d : Design) : Type 0 where
   pub within_step : (x : Str) → ((transitions_of d).bad_step x ≡ None) ↔ WithinStep d x
@@ -13,7 +14,7 @@ pub record FollowsRules (d : Design) : Type 0 where
   pub never_hidden : (x : Str) → (transitions_of d).hidden x ≡ false
   pub shows : (x : Str) (c : ℕ) → WithinStep d x → (((transitions_of d).label x).action ≡ c) ↔ Does d x c
   pub within_state : (s : Str) → ((transitions_of d).bad_state s ≡ None) ↔ WithinState d s
-  pub state_place : (s : Str) (p : ℕ) → All (λ byte. byte < 256) s
+  pub state_place : (s : Str) (p : ℕ) → AreBytes s
       → ((transitions_of d).bad_state s ≡ Some p) ↔ NoStateAt d s p
   pub moves : (a x b : Str) → ((transitions_of d).next a x ≡ Ok b) ↔ Moves d a x b
   pub stuck : (a x : Str) (p : ℕ) → WithinState d a → WithinStep d x →

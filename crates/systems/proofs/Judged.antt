@@ -16,6 +16,7 @@ use Rattle.steps.proofs.Answered.{ok_not_err, some_not_none, step_shaped, step_s
 use Rattle.systems.specs.Design.{Design}
 use Rattle.systems.specs.Rules.{Moves, LeftOf, WithinState, WithinStep, NoStateAt, NoStepAt, StuckAt}
 use Rattle.systems.specs.Possible.{ShownAs, Stopped, Allowed, StepRefused, StateRefused, Accepted, Refused, BothRefused, Independent, StepAnswered, NoneAnswered, AnswerRefused, Possible}
+use Rattle.nets.specs.Rules.{AreBytes}
 
 -- what the rules say of each part of a meaning
 pub record ByRules (d : Design) (ps : List Pair) (ns : List ℕ) (t : Transitions) (i : Independence) : Type 0 where
@@ -24,7 +25,7 @@ pub record ByRules (d : Design) (ps : List Pair) (ns : List ℕ) (t : Transition
   pub stopped : (x : Str) → WithinStep d x → (t.hidden x ≡ true) ↔ Stopped d ps ns x
   pub shows : (x : Str) (c : ℕ) → WithinStep d x → ((t.label x).action ≡ c) ↔ ShownAs d ps ns x c
   pub within_state : (s : Str) → (t.bad_state s ≡ None) ↔ WithinState d s
-  pub state_place : (s : Str) (p : ℕ) → All (λ byte. byte < 256) s → (t.bad_state s ≡ Some p) ↔ NoStateAt d s p
+  pub state_place : (s : Str) (p : ℕ) → AreBytes s → (t.bad_state s ≡ Some p) ↔ NoStateAt d s p
   pub moves : (a x b : Str) → t.hidden x ≡ false → (t.next a x ≡ Ok b) ↔ Moves d a x b
   pub stuck : (a x : Str) (p : ℕ) → t.hidden x ≡ false → WithinState d a → WithinStep d x →
       (t.next a x ≡ Err p) ↔ (((b : Str) → Moves d a x b → ⊥) × StuckAt d a x p)
@@ -185,11 +186,11 @@ module _ (d : Design) (ps : List Pair) (ns : List ℕ) (t : Transitions) (i : In
     λ w. behind _ _ (state_shaped t s ((r.within_state s).1 w)),
   )
 
-  state_refused : (s : Str) (f : MaskFault) → All (λ byte. byte < 256) s → StateRefused d ps ns s f
+  state_refused : (s : Str) (f : MaskFault) → AreBytes s → StateRefused d ps ns s f
       → state_refusal t s ≡ Some f
   state_refused s _ bytes (StateRefused.no_state {p} n) = no_state_told t s p ((r.state_place s p bytes).1 n)
 
-  states_refused : (s : Str) (f : MaskFault) → All (λ byte. byte < 256) s
+  states_refused : (s : Str) (f : MaskFault) → AreBytes s
       → (state_answer t s ≡ Err f) ↔ StateRefused d ps ns s f
   states_refused s f bytes = (
     λ e. by_state s
@@ -262,7 +263,7 @@ module _ (d : Design) (ps : List Pair) (ns : List ℕ) (t : Transitions) (i : In
           next_moved a x n b h.step ((r.within_state a).1 h.state) ((r.moves a x b (shown_of x h.step)).1 h.moves)
           ∙ state_fits b n h.fits
 
-  next_refused_exactly : (a x : Str) (n : ℕ) (f : MaskFault) → All (λ byte. byte < 256) a
+  next_refused_exactly : (a x : Str) (n : ℕ) (f : MaskFault) → AreBytes a
       → (next_answer t a x n ≡ Err f) ↔ Refused d ps ns a x n f
   next_refused_exactly a x n f bytes = (to, from f)
     where

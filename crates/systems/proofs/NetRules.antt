@@ -7,7 +7,7 @@ use Rattle.nets.specs.declared.event.Event.{Event}
 use Rattle.nets.specs.Events.{all_sound}
 use Rattle.nets.specs.System.{net_transitions, net_independence}
 use Rattle.nets.specs.Laws.{net_laws}
-use Rattle.nets.specs.Rules.{IsMarking, Names, IsEvent, NetGoes, StepPlace}
+use Rattle.nets.specs.Rules.{AreBytes, IsMarking, Names, IsEvent, NetGoes, StepPlace}
 use Rattle.nets.specs.Rules.StepPlace.{no_event, unfit}
 use Rattle.nets.proofs.ByRules.{net_states, net_steps, net_moves_by_rule, net_stuck, net_leaves_by_rule, net_back_undoes, net_labels}
 use Rattle.nets.proofs.Places.{net_state_places, net_step_places}
@@ -51,7 +51,7 @@ module _ (es : List Event) (sound : IsTrue (all_sound es)) where
       (λ p q h g. one_place es x p q h.1 g.1)
       (λ p e h. h.0 ((within_step x).0 e))
 
-  state_place : (s : Str) (p : ℕ) → All (λ byte. byte < 256) s
+  state_place : (s : Str) (p : ℕ) → AreBytes s
       → ((net_transitions es).bad_state s ≡ Some p) ↔ NoStateAt (of_net es) s p
   state_place s p bytes =
       exactly_told ((net_transitions es).bad_state s) (NoStateAt (of_net es) s)

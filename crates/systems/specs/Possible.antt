@@ -18,6 +18,7 @@ use Rattle.systems.specs.declared.terms_or_net.TermsOrNet.{TermsOrNet}
 use Rattle.systems.specs.Design.{Design, design_of}
 use Rattle.systems.specs.Layered.{transitions_of_system, independence_of_system}
 use Rattle.systems.specs.Rules.{Moves, Does, LeftOf, WithinState, WithinStep, NoStateAt, NoStepAt, StuckAt}
+use Rattle.nets.specs.Rules.{AreBytes}
 
 -- a design, the pairs that rename what its steps show, and the names that a mask hides
 module _ (d : Design) (ps : List Pair) (ns : List ℕ) where
@@ -105,11 +106,11 @@ module _ (d : Design) (ps : List Pair) (ns : List ℕ) where
   pub record Possible (t : Transitions) (i : Independence) : Type 0 where
     -- from the state a by the step x
     pub next : (a x b : Str) (n : ℕ) → (next_answer t a x n ≡ Ok b) ↔ Accepted a x n b
-    pub next_refused : (a x : Str) (n : ℕ) (f : MaskFault) → All (λ byte. byte < 256) a →
+    pub next_refused : (a x : Str) (n : ℕ) (f : MaskFault) → AreBytes a →
         (next_answer t a x n ≡ Err f) ↔ Refused a x n f
     -- whether it is a state
     pub state : (s : Str) → (state_answer t s ≡ Ok tt) ↔ WithinState d s
-    pub state_refused : (s : Str) (f : MaskFault) → All (λ byte. byte < 256) s →
+    pub state_refused : (s : Str) (f : MaskFault) → AreBytes s →
         (state_answer t s ≡ Err f) ↔ StateRefused s f
     -- whether it is a step, and what it shows
     pub step : (x : Str) → (step_answer t x ≡ Ok tt) ↔ Allowed x
