@@ -1,4 +1,4 @@
--- The calls, and the bytes that name them. Assumes nothing.
+-- The calls, and the bytes that name them.
 use Rattle.std.specs.Prelude.{ℕ, List, [], ◌∷◌, Some, None, Option, ◌==◌, if◌then◌else◌}
 use Rattle.std.specs.Borrow.{Bor}
 use Rattle.frame.specs.declared.call.Call.{Call}

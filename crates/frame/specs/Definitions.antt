@@ -1,4 +1,4 @@
--- The definitions of a setup of terms, one by one. Assumes nothing.
+-- The definitions of a setup of terms, one by one.
 use Rattle.std.specs.Prelude.{◌≡◌, ℕ, ◌+◌, ◌≤◌, List, [], ◌∷◌, length, Some, None, Option}
 use Rattle.frame.specs.declared.definition.Definition.{Definition}
 

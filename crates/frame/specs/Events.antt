@@ -1,4 +1,4 @@
--- The events of a setup, as numbers. Assumes nothing.
+-- The events of a setup, as numbers.
 use Rattle.std.specs.Prelude.{◌≡◌, ℕ, ◌+◌, ◌*◌, List, [], ◌∷◌, length, take, drop, Some, None, Option, nat_le, slice_index, if◌then◌else◌}
 use Rattle.nets.specs.declared.event.Event.{Event}
 use Rattle.frame.specs.declared.event.TheConstants.{EVENT_SIZE}

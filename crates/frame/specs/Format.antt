@@ -1,6 +1,6 @@
--- What reading a frame promises, in words of the format alone. Assumes nothing.
+-- What reading a frame promises, in words of the format alone.
 use Rattle.std.specs.Prelude.{◌≡◌, ◌≢◌, ℕ, ◌+◌, ◌*◌, ◌<◌, ◌≤◌, ◌↔◌, List, ◌∷◌, ◌++◌, length, take, drop, Ok, Err, Result, ◌⊎◌, IsTrue, IsFalse}
-use Rattle.std.specs.List.{All, Contains}
+use Rattle.std.specs.List.{Contains}
 use Rattle.actions.specs.declared.pairs.Pair.{Pair}
 use Rattle.actions.specs.Action.{is_name}
 use Rattle.frame.specs.declared.call.TheConstants.{SETUP}

@@ -1,4 +1,4 @@
--- The frames: what each holds, and its bytes. Assumes nothing.
+-- The frames: what each holds, and its bytes.
 use Rattle.std.specs.Prelude.{◌≡◌, ℕ, ◌+◌, ◌*◌, ◌/◌, ◌<◌, ◌≤◌, List, [], ◌∷◌, ◌++◌, length, Some, None, Option, IsTrue}
 use Rattle.std.specs.List.{All}
 use Rattle.actions.specs.declared.pairs.Pair.{Pair}

@@ -1,4 +1,4 @@
--- The kinds of setups, and the bytes that name them. Assumes nothing.
+-- The kinds of setups, and the bytes that name them.
 use Rattle.std.specs.Prelude.{ℕ, Some, None, Option, ◌==◌, if◌then◌else◌}
 use Rattle.frame.specs.declared.kind.Kind.{Kind}
 use Rattle.frame.specs.declared.kind.Kind.TheVariants.{Terms, Net}

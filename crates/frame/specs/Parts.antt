@@ -1,4 +1,4 @@
--- The counted parts of a setup, taken off the front of its bytes. Assumes nothing.
+-- The counted parts of a setup, taken off the front of its bytes.
 use Rattle.std.specs.Prelude.{ℕ, zero, suc, ◌*◌, List, [], ◌∷◌, length, take, drop, Some, None, Option, nat_le, if◌then◌else◌}
 use Rattle.std.specs.Option.{option_and_then, option_map_or}
 

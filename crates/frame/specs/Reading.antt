@@ -1,4 +1,4 @@
--- What reading a frame answers, step by step. Assumes nothing.
+-- What reading a frame answers, step by step.
 use Rattle.std.specs.Prelude.{ℕ, ◌+◌, ◌-◌, List, [], ◌∷◌, length, Some, None, Ok, Err, Option, Result, ◌==◌, nat_le, if◌then◌else◌}
 use Rattle.std.specs.Borrow.{Bor}
 use Rattle.actions.specs.Contents.{pairs_of, names_of}

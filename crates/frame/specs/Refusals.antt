@@ -1,4 +1,4 @@
--- The number, the layer and the place by which a refused frame is told. Assumes nothing.
+-- The number, the layer and the place by which a refused frame is told.
 use Rattle.steps.specs.declared.fault.Refusal.{Refusal}
 use Rattle.frame.specs.declared.fault.FrameFault.{FrameFault}
 use Rattle.frame.specs.declared.fault.FrameFault.TheVariants.{Malformed, BadSetup}

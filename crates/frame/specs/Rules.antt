@@ -1,5 +1,5 @@
 -- The rules of a setup, byte by byte: what is taken, or the place of the first byte that breaks
--- one. Assumes nothing.
+-- one.
 use Rattle.std.specs.Prelude.{ℕ, ◌+◌, ◌*◌, Bool, List, [], ◌∷◌, ◌++◌, length, Some, None, Ok, Err, Option, Result, nat_le, if◌then◌else◌}
 use Rattle.actions.specs.declared.pairs.Pair.{Pair}
 use Rattle.actions.specs.declared.pairs.PairFault.{PairFault}

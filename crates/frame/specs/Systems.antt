@@ -1,5 +1,4 @@
 -- The system of a setup that was read: what it holds, and where it stands in the frame.
--- Assumes nothing.
 use Rattle.std.specs.Prelude.{ℕ, List}
 use Rattle.frame.specs.declared.definition.Definitions.{Definitions}
 use Rattle.frame.specs.declared.setup.System.{System}

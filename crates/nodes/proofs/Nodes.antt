@@ -1,5 +1,5 @@
 -- The nodes of the strings that are terms or proofs.
-use Rattle.std.proofs.Common.{◌≡◌, ℕ, true, ◌∷◌, ◌++◌, length, drop, is_ok, Some, None, Ok, Err, Option, Result, nat_le, sym, refl, ap, ◌∙◌, subst, length-append, arith}
+use Rattle.std.proofs.Common.{◌≡◌, ℕ, true, ◌∷◌, ◌++◌, length, drop, is_ok, Some, None, Ok, Err, Result, nat_le, sym, refl, ap, ◌∙◌, subst, length-append, arith}
 use Rattle.std.proofs.lemmas.Bool.{cond-true, le-leb}
 use Rattle.std.proofs.lemmas.List.{take_at, drop_at}
 use Rattle.steps.specs.Meaning.{Str}

@@ -1,12 +1,12 @@
 -- How many bytes of its own a node has, and how many parts, by its first byte.
-use Rattle.std.proofs.Common.{◌≡◌, ◌⊎◌, inl, inr, ℕ, suc, ◌+◌, Bool, true, false, cond, [], ◌∷◌, drop, Some, None, Ok, Option, Result, nat_eq, nat_le, nat_lt, sym, refl, ap, ◌∙◌, arith}
+use Rattle.std.proofs.Common.{◌≡◌, ◌⊎◌, inl, inr, ℕ, suc, ◌+◌, Bool, true, false, cond, [], ◌∷◌, drop, Some, None, Ok, Option, nat_eq, nat_le, nat_lt, refl, ap, ◌∙◌, arith}
 use Rattle.std.proofs.lemmas.Bool.{eqb-true}
 use Rattle.ccs.specs.declared.node_bytes.TheConstants.{NIL, PREFIX, PARALLEL, SUM, RESTRICTION, CALL, ACT, LEFT, RIGHT, BOTH, CHOOSE_LEFT, CHOOSE_RIGHT, UNDER}
 use Rattle.steps.specs.Meaning.{Str}
 use Rattle.actions.specs.Action.{is_name, is_action}
 use Rattle.ccs.specs.Syntax.{Term}
-use Rattle.ccs.specs.Syntax.Term.{nil, prefix, par, sum, restrict, call}
-use Rattle.ccs.specs.Syntax.Proof.{act, on_left, on_right, both, choose_left, choose_right, under}
+use Rattle.ccs.specs.Syntax.Term.{prefix, par, sum, restrict, call}
+use Rattle.ccs.specs.Syntax.Proof.{act, on_left, on_right, choose_left, choose_right, under}
 use Rattle.ccs.specs.Reading.{Next, alone, with_part, with_parts, before, term_byte, proof_byte}
 use Rattle.ccs.specs.declared.due.Due.TheVariants.{Node, Action, Name, Number}
 use Rattle.nodes.specs.declared.scan.Wanted.{Wanted}

@@ -1,6 +1,6 @@
 -- How far the first term, or the first proof, of a string goes.
-use Rattle.std.proofs.Common.{◌≡◌, ℕ, zero, suc, ◌+◌, true, false, cond, ◌∷◌, ◌++◌, length, Some, None, Ok, Err, Option, Result, nat_le, sym, refl, ap, ◌∙◌, append_assoc, length-append, arith}
-use Rattle.std.proofs.lemmas.Bool.{ltb-true, le-leb, ne_eqb}
+use Rattle.std.proofs.Common.{◌≡◌, ℕ, suc, true, ◌∷◌, ◌++◌, length, Some, Ok, Option, nat_le, sym, refl, ap, ◌∙◌, append_assoc, length-append, arith}
+use Rattle.std.proofs.lemmas.Bool.{ltb-true, le-leb}
 use Rattle.ccs.specs.declared.node_bytes.TheConstants.{NIL, PREFIX, PARALLEL, SUM, RESTRICTION, CALL, ACT, LEFT, RIGHT, BOTH, CHOOSE_LEFT, CHOOSE_RIGHT, UNDER}
 use Rattle.steps.specs.Meaning.{Str}
 use Rattle.ccs.specs.Syntax.{Term, Proof}
@@ -12,7 +12,7 @@ use Rattle.ccs.specs.Reading.{term_byte, proof_byte}
 use Rattle.ccs.proofs.Cases.{both_of}
 use Rattle.ccs.specs.declared.due.Due.TheVariants.{Node, Action, Name, Number}
 use Rattle.nodes.specs.declared.scan.Wanted.{Wanted}
-use Rattle.nodes.specs.Whole.{done, one_on, whole, start, shifted, ahead}
+use Rattle.nodes.specs.Whole.{one_on, whole, start, shifted, ahead}
 use Rattle.nodes.specs.Grammars.{fits_of}
 use Rattle.nodes.proofs.Ahead.{more_due, one_ahead, shifted_ahead, on_byte, last_byte}
 

@@ -1,5 +1,5 @@
 -- What a sink holds when strings have been written to it.
-use Rattle.std.proofs.Common.{◌≡◌, ℕ, zero, suc, min, ◌+◌, [], ◌∷◌, ◌++◌, length, take, refl, ap, ◌∙◌, append_assoc, length-append, arith}
+use Rattle.std.proofs.Common.{◌≡◌, ℕ, zero, suc, min, [], ◌∷◌, ◌++◌, length, take, refl, ap, ◌∙◌, append_assoc, length-append, arith}
 use Rattle.steps.specs.Meaning.{Str}
 use Rattle.residuals.specs.declared.sink.Sink.{Sink}
 use Rattle.residuals.specs.Sink.{empty_sink, with_byte, sink_after}

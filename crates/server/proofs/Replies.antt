@@ -1,4 +1,4 @@
--- What comes of an outcome that was answered. Assumes nothing.
+-- What comes of an outcome that was answered.
 use Rattle.std.proofs.Common.{◌≡◌, ℕ, ◌-◌, ◌≤◌, List, [], ◌∷◌, ◌++◌, leb, length, take, drop, Some, None, Ok, Err, Option, Result, sym, refl, ap, ◌∙◌, arith}
 use Rattle.std.specs.Result.{IsErrAnd}
 use Rattle.std.proofs.lemmas.List.{take_at, append_assoc, take-append-drop, drop-append-le, length-take, length-append}

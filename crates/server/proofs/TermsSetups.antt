@@ -1,4 +1,4 @@
--- A setup gives the terms that its bodies spell, or the first byte that fits no body. Assumes nothing.
+-- A setup gives the terms that its bodies spell, or the first byte that fits no body.
 use Rattle.std.proofs.Common.{◌≡◌, ℕ, ◌+◌, ◌-◌, true, List, [], ◌∷◌, ◌++◌, length, map, not, is_some, Some, None, Ok, Err, Option, Result, replicate, sym, refl, ap, ◌∙◌, subst, append_assoc, append-nil, ap₂, arith}
 use Rattle.std.proofs.lemmas.List.Elements.{All-nil, All-push}
 use Rattle.std.specs.List.{All}

@@ -1,4 +1,4 @@
--- What the server answers to a line, and what it keeps afterwards. Assumes nothing.
+-- What the server answers to a line, and what it keeps afterwards.
 use Rattle.std.specs.Prelude.{ℕ, cond, List, [], ◌∷◌, length, Some, None, Ok, Err, Option, Result, nat_le}
 use Rattle.byte_strings.specs.Buffer.{Str, over}
 use Rattle.hexadecimal.specs.Hex.{read_answer}

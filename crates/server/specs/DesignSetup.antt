@@ -1,4 +1,4 @@
--- The design that a setup makes: terms or a net. Assumes nothing.
+-- The design that a setup makes: terms or a net.
 use Rattle.std.specs.Prelude.{ℕ, Ok, Err, Result}
 use Rattle.systems.specs.declared.terms_or_net.TermsOrNet.{TermsOrNet}
 use Rattle.systems.specs.Design.{Design, design_of}

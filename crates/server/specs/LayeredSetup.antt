@@ -1,4 +1,4 @@
--- The system that a setup makes: terms or a net, behind the renaming and the mask. Assumes nothing.
+-- The system that a setup makes: terms or a net, behind the renaming and the mask.
 use Rattle.std.specs.Prelude.{ℕ, List, Ok, Err, Result}
 use Rattle.actions.specs.declared.pairs.Pair.{Pair}
 use Rattle.systems.specs.declared.terms_or_net.TermsOrNet.{TermsOrNet}

@@ -1,4 +1,4 @@
--- What a byte of input does, where l is the whole line so far, and what the end of the input does. Assumes nothing.
+-- What a byte of input does, where l is the whole line so far, and what the end of the input does.
 use Rattle.std.specs.Prelude.{◌≡◌, ℕ, cond, [], ◌∷◌, ◌++◌, take, Some, Option, ◌==◌, nat_le}
 use Rattle.byte_strings.specs.Buffer.{Str}
 use Rattle.server.specs.Text.{text_limit}

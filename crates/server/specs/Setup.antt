@@ -1,4 +1,4 @@
--- The net that a setup makes: its events one by one, each taken or refused. Assumes nothing.
+-- The net that a setup makes: its events one by one, each taken or refused.
 use Rattle.std.specs.Prelude.{◌≡◌, ℕ, zero, suc, ◌+◌, ◌*◌, ◌<◌, ◌⊎◌, List, [], ◌∷◌, ◌++◌, length, Some, None, Ok, Err, Result, slice_index_or}
 use Rattle.byte_strings.specs.Buffer.{Str}
 use Rattle.nets.specs.declared.event.Event.{Event}

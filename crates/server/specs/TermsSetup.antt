@@ -1,4 +1,4 @@
--- The terms that a setup makes: its bodies one by one, each taken or refused. Assumes nothing.
+-- The terms that a setup makes: its bodies one by one, each taken or refused.
 use Rattle.std.specs.Prelude.{◌≡◌, ℕ, ◌+◌, true, List, [], ◌∷◌, ◌++◌, length, map, Some, None, Ok, Err, Result}
 use Rattle.std.specs.List.{All}
 use Rattle.byte_strings.specs.Buffer.{Str}

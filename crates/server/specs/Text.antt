@@ -1,4 +1,4 @@
--- Answer lines: what an accepted call answers, and how refusals are told. Assumes nothing.
+-- Answer lines: what an accepted call answers, and how refusals are told.
 use Rattle.std.specs.Prelude.{◌≡◌, ℕ, ◌≤◌, [], ◌∷◌, ◌++◌, length, Some, None, Ok, Err, Option, Result}
 use Rattle.byte_strings.specs.Buffer.{Str, over}
 use Rattle.hexadecimal.specs.Line.{line}

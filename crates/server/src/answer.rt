@@ -9,8 +9,8 @@ ghost use Rattle.server.specs.Answer.{model_of, line_reply, reply_length, reply_
 
 use crate::fault::Fault;
 use crate::server::Server;
-use crate::text::TEXT_LIMIT;
 use crate::text;
+use crate::text::TEXT_LIMIT;
 use actions::names::Names;
 use actions::pairs::Pairs;
 use bench::bench::Bench;

@@ -1,9 +1,8 @@
 -- What a system answers whose meaning goes by the rules.
 -- An answer is `first` of the refusals in their order, and the rules say of each refusal when it arises. So each
 -- question is split as the answer is: both directions of a promise follow from what the split has found.
-use Rattle.std.proofs.Common.{◌≡◌, ℕ, ◌+◌, ◌≤◌, ◌<◌, min, Bool, true, false, cond, ◌⊎◌, ◌↔◌, inl, inr, List, length, is_some, Some, None, Ok, Err, Option, Result, nat_le, refl, sym, ap, ap₂, ◌∙◌, subst, arith}
+use Rattle.std.proofs.Common.{◌≡◌, ℕ, ◌≤◌, ◌<◌, min, Bool, true, false, ◌⊎◌, ◌↔◌, inl, inr, List, length, is_some, Some, None, Ok, Err, Option, Result, nat_le, refl, sym, ap, ◌∙◌, subst}
 use Rattle.std.proofs.lemmas.Bool.{false≢true, cond-true, cond-false, le-leb, lt-leb, leb-true, leb-false}
-use Rattle.std.specs.Prelude.{All}
 use Rattle.actions.specs.declared.pairs.Pair.{Pair}
 use Rattle.steps.specs.declared.label.Label.{Label}
 use Rattle.steps.specs.declared.fault.MaskFault.{MaskFault}
@@ -11,7 +10,7 @@ use Rattle.steps.specs.declared.fault.MaskFault.TheVariants.{Masked, Inner}
 use Rattle.steps.specs.declared.fault.SystemFault.TheVariants.{NoState, NoStep, Impossible, StateTooLong, StepTooLong}
 use Rattle.steps.specs.Meaning.{Str, Transitions, Independence}
 use Rattle.steps.specs.Laws.{state_limit, step_limit}
-use Rattle.steps.specs.Answers.{first, state_refusal, step_refusal, hidden_refusal, told_length, fitting_state, move_answer, fitting_step, state_answer, step_answer, label_answer, next_answer, both_answer, independent_answer, left_answer, back_answer}
+use Rattle.steps.specs.Answers.{first, state_refusal, step_refusal, hidden_refusal, told_length, fitting_state, move_answer, fitting_step, state_answer, label_answer, next_answer, both_answer, independent_answer}
 use Rattle.steps.proofs.Answered.{ok_not_err, some_not_none, step_shaped, step_shown, both_ok}
 use Rattle.systems.specs.Design.{Design}
 use Rattle.systems.specs.Rules.{Moves, LeftOf, WithinState, WithinStep, NoStateAt, NoStepAt, StuckAt}

@@ -1,7 +1,7 @@
 -- A design that follows the rules does so behind a renaming behind a mask.
 -- With the mask's test false all that is asked is asked of the design, by computing. The test is true exactly where the
 -- action that a step has got is a listed name or the co-name of one.
-use Rattle.std.proofs.Common.{◌≡◌, ℕ, Bool, true, false, cond, ◌||◌, ◌⊎◌, ◌↔◌, List, Some, None, Ok, Err, Option, Result, refl, sym, ap, ap₂, ◌∙◌, subst}
+use Rattle.std.proofs.Common.{◌≡◌, ℕ, Bool, true, false, cond, ◌||◌, ◌↔◌, List, Some, None, Ok, Err, Option, refl, sym, ap, ap₂, ◌∙◌, subst}
 use Rattle.std.proofs.lemmas.Bool.{false≢true}
 use Rattle.actions.specs.declared.pairs.Pair.{Pair}
 use Rattle.actions.specs.Names.{all_names}
@@ -12,7 +12,7 @@ use Rattle.layers.specs.Renaming.{renaming_transitions}
 use Rattle.layers.specs.Promises.{ShowsListed}
 use Rattle.layers.proofs.Promises.{hides_from, hides_to, renames_exactly}
 use Rattle.systems.specs.Design.{Design, transitions_of, independence_of}
-use Rattle.systems.specs.Rules.{Moves, Does, LeftOf, WithinState, WithinStep, NoStateAt, NoStepAt, StuckAt}
+use Rattle.systems.specs.Rules.{Moves, LeftOf, WithinState, WithinStep, StuckAt}
 use Rattle.systems.specs.Possible.{ShownAs, Stopped}
 use Rattle.systems.proofs.DesignRules.{FollowsRules}
 use Rattle.systems.proofs.Judged.{ByRules}

@@ -1,6 +1,5 @@
 -- A net follows the rules: what is proved of it in nets, with each place told in no other case.
-use Rattle.std.proofs.Common.{◌≡◌, ℕ, ◌<◌, ◌↔◌, List, [], Some, None, Ok, Err, Option, sym, refl, ap, ◌∙◌, subst, IsTrue}
-use Rattle.std.specs.Prelude.{All, slice_get}
+use Rattle.std.proofs.Common.{◌≡◌, ℕ, ◌↔◌, List, [], Some, None, Err, sym, refl, ap, ◌∙◌, subst, IsTrue}
 use Rattle.steps.specs.Meaning.{Str}
 use Rattle.steps.specs.Laws.{Laws}
 use Rattle.nets.specs.declared.event.Event.{Event}

@@ -1,6 +1,6 @@
 -- The program's system answers as the rules say: a design that exists is sound, so it follows them, and so do the
 -- layers.
-use Rattle.std.proofs.Common.{◌≡◌, ℕ, List, ap, subst, ◌∙◌}
+use Rattle.std.proofs.Common.{◌≡◌, ap, subst, ◌∙◌}
 use Rattle.actions.specs.declared.names.Names.{Names}
 use Rattle.actions.specs.declared.pairs.Pairs.{Pairs}
 use Rattle.actions.specs.Contents.{names_of, pairs_of}

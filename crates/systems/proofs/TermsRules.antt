@@ -1,18 +1,17 @@
 -- Terms follow the rules: what is proved of them in ccs.
-use Rattle.std.proofs.Common.{◌≡◌, ℕ, ◌<◌, ◌≤◌, ◌↔◌, List, length, Some, None, Ok, Err, Option, Result, sym, refl, ap, ◌∙◌, subst, IsTrue}
+use Rattle.std.proofs.Common.{◌≡◌, ℕ, ◌↔◌, List, length, Some, None, Err, sym, refl, ap, ◌∙◌, IsTrue}
 use Rattle.steps.specs.Meaning.{Str}
 use Rattle.steps.specs.Laws.{Laws}
 use Rattle.ccs.specs.Syntax.{Term, Proof}
-use Rattle.ccs.specs.Label.{label, proper}
-use Rattle.ccs.specs.Spelling.{term_bytes, proof_bytes, sound_term, sound_proof}
-use Rattle.ccs.specs.Beginning.{IsTerm, IsProof, IsStep}
-use Rattle.ccs.specs.System.{body_of, sound_bodies, terms_transitions, terms_independence}
+use Rattle.ccs.specs.Label.{label}
+use Rattle.ccs.specs.Spelling.{term_bytes, proof_bytes, sound_proof}
+use Rattle.ccs.specs.System.{sound_bodies, terms_transitions, terms_independence}
 use Rattle.ccs.specs.FollowLaws.{Goes}
 use Rattle.ccs.specs.ResidualLaws.{Leaves}
 use Rattle.ccs.proofs.Places.{state_place, step_place}
 use Rattle.ccs.proofs.System.{terms_laws, states_are_terms, steps_are_proper, next_by_rules, misfit_place, labels_shown, left_by_rules, back_undoes_left}
 use Rattle.systems.specs.Design.Design.{of_terms}
-use Rattle.systems.specs.Rules.{ProofShows, MisfitIn, Moves, Does, WithinState, WithinStep, NoStateAt, NoStepAt, StuckAt}
+use Rattle.systems.specs.Rules.{ProofShows, MisfitIn, WithinState, WithinStep}
 use Rattle.systems.proofs.DesignRules.{FollowsRules}
 
 module _ (ds : List Term) (sound : IsTrue (sound_bodies (length ds) ds)) where

@@ -1,4 +1,4 @@
--- The answers, by computing the meaning. Assumes nothing.
+-- The answers, by computing the meaning.
 use Rattle.std.proofs.Common.{refl, arith}
 use Rattle.ccs.specs.Label.{label}
 use Rattle.ccs.specs.Spelling.{term_bytes, proof_bytes}

@@ -1,4 +1,4 @@
--- A design: terms over definitions, or a net. Assumes nothing.
+-- A design: terms over definitions, or a net.
 use Rattle.std.specs.Prelude.{List}
 use Rattle.steps.specs.Meaning.{Transitions, Independence}
 use Rattle.ccs.specs.Syntax.{Term}

@@ -1,5 +1,5 @@
 -- What the program's system holds, and what it means: terms or a net, behind pairs that rename what
--- steps show, behind names that mask them. Assumes nothing.
+-- steps show, behind names that mask them.
 use Rattle.std.specs.Prelude.{ℕ, List}
 use Rattle.actions.specs.declared.pairs.Pair.{Pair}
 use Rattle.actions.specs.Contents.{names_of, pairs_of}

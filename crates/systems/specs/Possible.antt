@@ -1,7 +1,7 @@
 -- The whole meaning of "possible": what the program's system, a design behind a renaming behind a
 -- mask, accepts, and what it refuses, in which order and at which place. In words of the rules and
--- not of the code. Assumes nothing.
-use Rattle.std.specs.Prelude.{◌≡◌, ℕ, ◌<◌, ◌≤◌, min, Bool, true, false, ◌⊎◌, ◌↔◌, List, length, Some, None, Ok, Err, All}
+-- not of the code.
+use Rattle.std.specs.Prelude.{◌≡◌, ℕ, ◌<◌, ◌≤◌, min, true, false, ◌⊎◌, ◌↔◌, List, length, Some, None, Ok, Err}
 use Rattle.actions.specs.declared.pairs.Pair.{Pair}
 use Rattle.actions.specs.Contents.{names_of, pairs_of}
 use Rattle.steps.specs.declared.label.Label.{Label}

@@ -1,6 +1,5 @@
 -- What the rules give a design: its states and steps, which step leads where, what it shows, and
 -- what is left of it after another. Terms go by the transition rules, a net by the firing rule.
--- Assumes nothing.
 use Rattle.std.specs.Prelude.{◌≡◌, ℕ, ◌≤◌, List, length, IsTrue}
 use Rattle.steps.specs.Meaning.{Str}
 use Rattle.steps.specs.Laws.{state_limit, step_limit}

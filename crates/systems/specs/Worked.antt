@@ -1,5 +1,5 @@
 -- Questions to the meaning of terms and of nets, with their answers, which anyone can work out by
--- hand. Assumes nothing.
+-- hand.
 use Rattle.std.specs.Prelude.{◌≡◌, Option, [], ◌∷◌, Some, None, Ok, IsTrue}
 use Rattle.steps.specs.Meaning.{Str, Transitions}
 use Rattle.nets.specs.System.{net_transitions}

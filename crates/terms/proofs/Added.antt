@@ -1,11 +1,10 @@
 -- A body behind the others.
-use Rattle.std.proofs.Common.{◌≡◌, ℕ, ◌<◌, ◌≤◌, Bool, true, false, cond, not, nat_lt, List, [], ◌∷◌, ◌++◌, length, take, is_some, Some, None, Option, sym, refl, ap, ◌∙◌, length-append, arith}
+use Rattle.std.proofs.Common.{◌≡◌, ℕ, ◌<◌, ◌≤◌, Bool, true, false, cond, not, nat_lt, List, [], ◌∷◌, ◌++◌, length, take, is_some, Some, None, sym, refl, ap, ◌∙◌, length-append, arith}
 use Rattle.std.specs.Cmp.Derive.{both_true}
 use Rattle.std.proofs.lemmas.List.{take_all}
 use Rattle.std.proofs.lemmas.Bool.{cond-true, lt-ltb}
 use Rattle.steps.specs.Meaning.{Str}
 use Rattle.ccs.proofs.Cases.{both_of}
-use Rattle.terms.specs.declared.body.BodyFault.{BodyFault}
 use Rattle.terms.specs.Bodies.{body_fault, sound_bodies_of, no_body, add_fault, with_body, bodies_after}
 
 -- what fits is the string itself

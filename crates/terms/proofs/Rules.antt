@@ -2,18 +2,17 @@
 -- terms over sound definitions hold of all. What a question answers is then gone through refusal by refusal: the laws
 -- say
 -- which strings are refused, and the theorems what is told of them, and of the others.
-use Rattle.std.proofs.Common.{◌≡◌, ℕ, ◌<◌, ◌≤◌, min, Bool, true, false, cond, List, length, take, is_some, Some, None, Ok, Err, Option, Result, IsTrue, IsErr, nat_le, sym, refl, ap, ap₂, ◌∙◌, subst}
+use Rattle.std.proofs.Common.{◌≡◌, ℕ, min, Bool, true, false, cond, length, take, is_some, Some, None, Ok, Err, Option, Result, IsTrue, IsErr, nat_le, sym, refl, ap, ap₂, ◌∙◌, subst}
 use Rattle.std.specs.Prelude.{IsErrAnd}
 use Rattle.std.proofs.lemmas.Bool.{leb-true, leb-false}
 use Rattle.steps.specs.declared.label.Label.{Label}
 use Rattle.steps.specs.declared.fault.MaskFault.{MaskFault}
 use Rattle.steps.specs.declared.fault.MaskFault.TheVariants.{Inner}
 use Rattle.steps.specs.declared.fault.SystemFault.{SystemFault}
-use Rattle.steps.specs.declared.fault.SystemFault.TheVariants.{NoState, NoStep, Impossible, StateTooLong, StepTooLong}
+use Rattle.steps.specs.declared.fault.SystemFault.TheVariants.{NoState, NoStep, StateTooLong, StepTooLong}
 use Rattle.steps.specs.Meaning.{Str}
 use Rattle.steps.specs.Laws.{Laws, state_limit, step_limit}
-use Rattle.steps.specs.Answers.{first, told_length, state_refusal, step_refusal, state_answer, step_answer, label_answer, fitting_state, move_answer, next_answer, both_answer, fitting_step, independent_answer, left_answer, back_answer}
-use Rattle.ccs.specs.Syntax.{Term, Proof}
+use Rattle.steps.specs.Answers.{first, told_length, state_refusal, step_refusal, state_answer, step_answer, label_answer, move_answer, next_answer, both_answer, fitting_step, independent_answer, left_answer, back_answer}
 use Rattle.ccs.specs.Beginning.{IsTerm, LongestBeginning}
 use Rattle.ccs.specs.Reading.{read_proof}
 use Rattle.ccs.specs.FollowLaws.{Goes}

@@ -1,11 +1,10 @@
 -- The term that a call stands for.
-use Rattle.std.proofs.Common.{◌≡◌, ℕ, zero, suc, ◌-◌, ◌≤◌, true, not, List, [], ◌∷◌, ◌++◌, length, map, replicate, is_ok, is_some, Some, None, Ok, Err, Option, Result, slice_index_or, sym, refl, ap, ◌∙◌, subst}
+use Rattle.std.proofs.Common.{◌≡◌, ℕ, zero, suc, ◌-◌, ◌≤◌, true, not, List, [], ◌∷◌, ◌++◌, length, map, replicate, is_ok, is_some, Some, None, Ok, Option, Result, slice_index_or, sym, refl, ap, ◌∙◌, subst}
 use Rattle.std.specs.List.{slice_get}
 use Rattle.steps.specs.Meaning.{Str}
 use Rattle.ccs.specs.Syntax.{Term}
 use Rattle.ccs.specs.Syntax.Term.{nil}
 use Rattle.ccs.specs.Reading.{read_term}
-use Rattle.ccs.specs.Follow.{unfold_call}
 use Rattle.ccs.specs.System.{body_of}
 use Rattle.ccs.proofs.Cases.{both_of}
 use Rattle.nodes.specs.Nodes.{NodeOfTerm, TermNode, called_of}

@@ -1,5 +1,5 @@
 -- What terms over some definitions answer, said by the transition rules alone.
-use Rattle.std.specs.Prelude.{◌≡◌, ◌⊎◌, ℕ, ◌<◌, ◌≤◌, min, Bool, true, false, List, length, take, Some, None, Option, Ok, Err, Result, IsTrue, ◌↔◌}
+use Rattle.std.specs.Prelude.{◌≡◌, ℕ, ◌<◌, ◌≤◌, min, Bool, true, false, List, length, take, Some, None, Option, Ok, Err, Result, IsTrue, ◌↔◌}
 use Rattle.byte_strings.specs.Buffer.{count, buffer_after, count_some, buffer_after_some}
 use Rattle.steps.specs.declared.label.Label.{Label}
 use Rattle.steps.specs.declared.fault.MaskFault.{MaskFault}

@@ -1,4 +1,4 @@
-use Rattle.std.proofs.Common.{◌<◌, sym, ap, ◌∙◌, arith, rules, ltb-false}
+use Rattle.std.proofs.Common.{◌<◌, sym, ap, ◌∙◌, arith, rules}
 use Rattle.std.proofs.lemmas.List.Elements.{All-from_get_or}
 use Rattle.frame.specs.Reading.{split_answer}
 use Rattle.frame.proofs.Format.{reads_frames, places_malformed, places_kinds, places_bad_setups, reads_once, places_bodies, places_events, rules_kept}

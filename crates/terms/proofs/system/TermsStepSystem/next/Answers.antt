@@ -1,7 +1,7 @@
 use Rattle.std.proofs.Common.{refl, length, ap, ◌∙◌}
 use Rattle.byte_strings.specs.Buffer.{count, buffer_after}
 use Rattle.terms.specs.Contents.{terms_of}
-use Rattle.terms.proofs.Answered.{next_told_is, next_fault_is, read_checked, state_read_checked}
+use Rattle.terms.proofs.Answered.{next_told_is, next_fault_is}
 use Rattle.terms.specs.Rules.{NextRules, Written}
 use Rattle.terms.specs.Rules.NextRules.{by_no_step, from_no_state}
 use Rattle.terms.proofs.Rules.{next_rules, checked_is_step, at_step_fault, at_state_fault}
