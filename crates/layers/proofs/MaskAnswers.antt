@@ -2,7 +2,7 @@
 -- An answer is `first` of the refusals in their order. The shape of a step is refused alike inside and outside.
 -- With the mask's test false, all that follows is the inner system's, by computing; with it true, and the steps
 -- well shaped, the next refusal is the mask's. The rest is by cases on the test and on the shapes.
-use Rattle.std.proofs.Common.{◌≡◌, ℕ, Bool, true, false, cond, ◌||◌, ◌⊎◌, ◌↔◌, inl, inr, List, is_some, Some, None, Ok, Err, Option, Result, refl, sym, ap, ap₂, ◌∙◌, arith}
+use Rattle.std.proofs.Common.{◌≡◌, ℕ, Bool, true, false, cond, ◌||◌, ◌⊎◌, inl, inr, List, is_some, Some, None, Ok, Err, Option, Result, refl, sym, ap, ap₂, ◌∙◌, arith}
 use Rattle.std.proofs.lemmas.Bool.{false≢true}
 use Rattle.actions.specs.Names.{all_names}
 use Rattle.steps.specs.declared.fault.MaskFault.{MaskFault}

@@ -146,9 +146,10 @@ label_same ps l e = ap (λ a. record l { action = a }) e
 first_of_sound : (p : Pair) (ps : List Pair) → sound_pairs (p ∷ ps) ≡ true
     → (is_name p.from ≡ true) × (sound_pairs ps ≡ true)
 first_of_sound p ps h =
-    let parts = and_parts (is_name p.from && is_name p.to) (not (is_some (to_of ps p.from)) && sound_pairs ps) h in
-    ((and_parts (is_name p.from) (is_name p.to) parts.0).0,
-        (and_parts (not (is_some (to_of ps p.from))) (sound_pairs ps) parts.1).1)
+    let parts = and_parts (is_name p.from && is_name p.to) (not (is_some (to_of ps p.from)) && sound_pairs ps) h in (
+      (and_parts (is_name p.from) (is_name p.to) parts.0).0,
+      (and_parts (not (is_some (to_of ps p.from))) (sound_pairs ps) parts.1).1,
+    )
 
 -- what has a pair is a name
 from_name : (ps : List Pair) (n m : ℕ) → sound_pairs ps ≡ true → to_of ps n ≡ Some m → is_name n ≡ true

@@ -1,4 +1,4 @@
--- A step system from which steps are taken away by the names that they show. Assumes nothing.
+-- A step system from which steps are taken away by the names that they show.
 use Rattle.std.specs.Prelude.{ℕ, Bool, true, false, ◌||◌, List, None, Err, if◌then◌else◌}
 use Rattle.actions.specs.Names.{hides}
 use Rattle.steps.specs.Meaning.{Str, Transitions, Independence}

@@ -1,6 +1,5 @@
--- What masks and renamings make of a step system, in words of labels and listed names. Assumes
--- nothing.
-use Rattle.std.specs.Prelude.{◌≡◌, ℕ, ◌+◌, Bool, ◌⊎◌, ◌↔◌, List, [], Some, None, Ok, Err, Result, IsTrue}
+-- What masks and renamings make of a step system, in words of labels and listed names.
+use Rattle.std.specs.Prelude.{◌≡◌, ℕ, ◌+◌, ◌⊎◌, ◌↔◌, List, [], Some, None, Ok, Err, Result, IsTrue}
 use Rattle.std.specs.List.{Contains}
 use Rattle.actions.specs.declared.pairs.Pair.{Pair}
 use Rattle.steps.specs.declared.label.Label.{Label}

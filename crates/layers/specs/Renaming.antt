@@ -1,4 +1,4 @@
--- A step system whose steps show other names. Assumes nothing.
+-- A step system whose steps show other names.
 use Rattle.std.specs.Prelude.{List}
 use Rattle.actions.specs.declared.pairs.Pair.{Pair}
 use Rattle.actions.specs.Pairs.{replacement}

@@ -1,4 +1,4 @@
--- A mask keeps the laws of step systems wherever the system inside does. Assumes nothing.
+-- A mask keeps the laws of step systems wherever the system inside does.
 use Rattle.std.specs.Prelude.{◌≡◌, ℕ, ◌≤◌, Bool, true, false, ◌||◌, ◌↔◌, List, length, Some, None, Ok, Err, Option, Result, refl, IsTrue, IsFalse, if◌then◌else◌}
 use Rattle.std.proofs.Common.{sym, ap, ◌∙◌}
 use Rattle.std.proofs.lemmas.Bool.{cond-false, false≢true}

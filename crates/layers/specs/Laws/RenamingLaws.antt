@@ -1,4 +1,4 @@
--- A renaming keeps the laws of step systems wherever the system inside does. Assumes nothing.
+-- A renaming keeps the laws of step systems wherever the system inside does.
 use Rattle.std.specs.Prelude.{List}
 use Rattle.std.proofs.Common.{ap}
 use Rattle.actions.specs.declared.pairs.Pair.{Pair}
