@@ -506,7 +506,8 @@ bad_told s place (many_pairs ps ns system is many) =
     (ruled ps ns system is.1 ∙ ap (behind_pairs (3 + length (pair_bytes ps)) ns system) (pairs_answer-many ps many))
 bad_told s place (bad_pair ps ns system is enough bad) =
     at_setup s ps ns system (Err (BadSetup place)) is
-    (ruled ps ns system is.1 ∙ ap (behind_pairs (3 + length (pair_bytes ps)) ns system) (pairs_answer-bad ps place enough bad))
+    (ruled ps ns system is.1
+    ∙ ap (behind_pairs (3 + length (pair_bytes ps)) ns system) (pairs_answer-bad ps place enough bad))
 bad_told s place (many_names ps ns system is p many) =
     at_setup s ps ns system (Err (BadSetup place)) is
     (names_ruled ps ns system (Err (BadSetup (names_place ps))) is.1 p (names_answer-many ps ns many))

@@ -436,7 +436,8 @@ names_answer-many pairs ns many = cases (names_answer (names_place pairs) ns) (t
     cases (Err (BadSetup k)) (inl (more, at)) = ap (λ j. Err (BadSetup j)) at
     cases (Err (BadSetup k)) (inr (few, bad)) = absurd (omega arith)
 
-pub names_answer-bad : (pairs : List Pair) (ns : List ℕ) (place : ℕ) → length ns ≤ name_limit → NamesBadAt pairs ns place
+pub names_answer-bad : (pairs : List Pair) (ns : List ℕ) (place : ℕ) → length ns ≤ name_limit
+    → NamesBadAt pairs ns place
     → names_answer (names_place pairs) ns ≡ Err (BadSetup place)
 names_answer-bad pairs ns place few bad = cases (names_answer (names_place pairs) ns) (told_names pairs ns)
   where
