@@ -1,5 +1,5 @@
 // What the program's arguments ask for, and the texts that answer them.
-ghost use Rattle.std.specs.Prelude.{◌≡◌, ◌≢◌, ◌↔◌, [], ◌∷◌, Ok, Some, codes, IfErr, Contains};
+ghost use Rattle.std.specs.Prelude.{◌≡◌, ◌≢◌, ◌↔◌, ℕ, List, [], ◌∷◌, Ok, Err, Some, codes, IfErr, Contains};
 ghost use Rattle.sheetbench.specs.declared.command.Command.TheVariants.{Serve, Help, Version};
 
 use byte_strings::held::Held;
@@ -59,6 +59,8 @@ impl Command {
         ensures help { (result ≡ Ok Help) ↔ (arguments.now ≡ codes "--help" ∷ []) }
         ensures version { (result ≡ Ok Version) ↔ (arguments.now ≡ codes "--version" ∷ []) }
         ensures unexpected { IfErr result (Contains arguments.now) }
+        ensures second { (first other : List ℕ) (rest : List (List ℕ)) →
+            arguments.now ≡ first ∷ other ∷ rest → result ≡ Err other }
     {
         match arguments {
             [] => Ok(Command::Serve),
