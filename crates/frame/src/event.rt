@@ -1,7 +1,7 @@
 // The events of a setup, decoded.
 ghost use Rattle.std.specs.Prelude.{◌≡◌, ◌+◌, ◌*◌, ◌/◌, ◌≤◌, length};
 ghost use Rattle.std.specs.Iterator.{at_most};
-ghost use Rattle.frame.specs.Events.{NextEvent};
+ghost use Rattle.frame.specs.Events.{event_answer, NextEvent};
 
 use nets::event::Event;
 
@@ -28,6 +28,14 @@ impl<'a> Events<'a> {
         ensures { result.rest.now ≡ self.now.bytes.now }
     {
         EventsIter { rest: self.bytes }
+    }
+
+    // The event of a number, from 0 on; none past the last.
+    pub fn event(&self, i: u8) -> Option<Event>
+        ensures { result ≡ event_answer self.now.bytes.now i }
+    {
+        let rest = self.bytes.get(usize::from(EVENT_SIZE) * usize::from(i)..)?;
+        EventsIter { rest }.next()
     }
 
     // The place in the frame of an event's first byte, by its number from 0.

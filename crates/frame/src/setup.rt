@@ -12,6 +12,7 @@ use crate::layout::layout;
 use crate::rules::allowed;
 use actions::names::Names;
 use actions::pairs::Pairs;
+use nets::event::Event;
 use nets::net::EVENT_LIMIT;
 use terms::terms::DEFINITION_LIMIT;
 
@@ -34,6 +35,7 @@ pub enum System<'a> {
 
 impl Setup<'_> {
     ghost use Rattle.frame.specs.Reading.{layout_answer, parts_answer, setup_answer, setup_view, result_view};
+    ghost use Rattle.frame.specs.Systems.{system_view, event_of_system};
 
     // Reads what stands behind the first byte of a setup's frame: its kind, its layout, and then
     // the rules.
@@ -59,6 +61,16 @@ impl Setup<'_> {
             return Err(FrameFault::Malformed((end - behind.len()) as u16));
         }
         allowed(parts)
+    }
+
+    // The event of a number, from 0 on; none past the last, and of terms none.
+    pub fn event(&self, i: u8) -> Option<Event>
+        ensures { result ≡ event_of_system (system_view self.now.system) i }
+    {
+        match self.system {
+            System::Terms(_) => None,
+            System::Net(events) => events.event(i),
+        }
     }
 }
 
