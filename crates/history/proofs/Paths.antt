@@ -30,6 +30,10 @@ module _ (t : Transitions) where
   path_split [] {a} p = (a, here, p)
   path_split (x ∷ xs) (along n p) = let s = path_split xs p in (s.0, along n s.1, s.2)
 
+  -- a path of one step is that step
+  pub path_step : {a x b : Str} → Path t a (x ∷ []) b → next_answer t a x 256 ≡ Ok b
+  path_step (along n here) = n
+
   -- a replay goes along a path
   pub followed_path : (xs : List Str) (a : Str) (k : ℕ) (b : Str) → followed t a xs k ≡ Ok b → Path t a xs b
   followed_path [] a k b e = let same : a ≡ b = cc in subst (λ c. Path t a [] c) same here
@@ -89,6 +93,13 @@ module _ {t : Transitions} {i : Independence} (laws : Laws t i) where
       let f = told_state a x b n in
       let r = path_run f.1 p in
       (goes f.0 r.0, r.1)
+
+  -- the steps of a path are steps within the limit
+  pub path_steps : {a : Str} {xs : List Str} {b : Str} → Path t a xs b → ShortSteps t xs
+  path_steps here = tt
+  path_steps {a} (along {x = x} {b = b} n p) =
+      let f = next_ok t a x b 256 n in
+      ((laws.step_refusals x).0 (f.shaped, f.shown), path_steps p)
 
   pub path_short : {a : Str} {xs : List Str} {b : Str} → t.bad_state a ≡ None → Path t a xs b → (m : ℕ) (c : Str) → Run t a (take m xs) c → length c ≤ 256
   path_short {a} s here zero c r = subst (λ d. length d ≤ 256) (run_none t r) ((laws.state_refusals a).0 s).1

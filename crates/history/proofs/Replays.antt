@@ -13,7 +13,7 @@ use Rattle.bench.specs.declared.fault.BenchFault.{BenchFault}
 use Rattle.bench.specs.declared.fault.BenchFault.TheVariants.{Stopped}
 use Rattle.bench.specs.Replay.{followed, replayed}
 use Rattle.bench.proofs.Following.{starts}
-use Rattle.history.proofs.Paths.{Path, path_append, path_split, followed_path, path_followed, path_run}
+use Rattle.history.proofs.Paths.{Path, path_append, path_split, path_step, followed_path, path_followed, path_run}
 use Rattle.history.proofs.Paths.Path.{here, along}
 
 module _ (t : Transitions) where
@@ -39,8 +39,11 @@ module _ (t : Transitions) where
   pub replayed_snoc : (a : Str) (xs : List Str) (b x c : Str) → replayed t a xs ≡ Ok b → next_answer t b x 256 ≡ Ok c → replayed t a (xs ++ x ∷ []) ≡ Ok c
   replayed_snoc a xs b x c e n = path_replayed a xs b (xs ++ x ∷ []) c e (path_append t (replayed_path a xs b e) (along n here))
 
-  pub replayed_unsnoc : (a : Str) (xs : List Str) (x c : Str) → replayed t a (xs ++ x ∷ []) ≡ Ok c → (b : Str) × (replayed t a xs ≡ Ok b)
-  replayed_unsnoc a xs x c e = let s = path_split t xs (replayed_path a (xs ++ x ∷ []) c e) in (s.0, path_replayed a (xs ++ x ∷ []) c xs s.0 e s.1)
+  pub replayed_unsnoc : (a : Str) (xs : List Str) (x c : Str) → replayed t a (xs ++ x ∷ []) ≡ Ok c
+      → (b : Str) × (replayed t a xs ≡ Ok b) × (next_answer t b x 256 ≡ Ok c)
+  replayed_unsnoc a xs x c e =
+      let s = path_split t xs (replayed_path a (xs ++ x ∷ []) c e) in
+      (s.0, path_replayed a (xs ++ x ∷ []) c xs s.0 e s.1, path_step t s.2)
 
   pub state_told_ok : (s : Str) → t.bad_state s ≡ None → state_answer t s ≡ Ok tt
   state_told_ok s e = ap (λ o. first {A = Unit {0}} (elim o as (λ _. Option MaskFault) [ None ↦ None | Some p ↦ Some (Inner (NoState p)) ]) (Ok tt)) e
